@@ -1,0 +1,4 @@
+pub mod Fields
+pub mod Banks
+pub mod Masks
+pub mod Entries

@@ -1,0 +1,4 @@
+pub mod PartSteps
+pub mod DigitSteps
+pub mod LineLaws
+pub mod RegisterSteps

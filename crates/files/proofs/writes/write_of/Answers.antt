@@ -1,0 +1,75 @@
+use mathlib.Core.Path.{_≡_, refl, sym, ap, _∙_}
+use mathlib.Core.Bool.{true, false, cond, _&&_}
+use mathlib.Core.List.{List, [], _∷_}
+use lib.Chars.{codes}
+use lib.ListN.{length}
+use native.Mathlib.Omega.{arith}
+use Rattle.std.proofs.shelf.Tests.{cond-true, cond-false, and-left, ne-eqb}
+use Rattle.std.specs.Options.{isSome, mapped}
+use Rattle.std.specs.shelf.Text.{sameBytes}
+use Rattle.std.specs.declared.option.Option.{Option}
+use Rattle.std.specs.declared.option.Option.the-variants.{Some, None}
+use Rattle.bank.specs.declared.field.Entry.{Entry}
+use Rattle.files.specs.declared.cutter.Span.{Span}
+use Rattle.files.specs.Cutting.{Part, first, others, partOf, partsLeft}
+use Rattle.files.specs.Writes.{entryOf, writeFrom}
+use Rattle.files.proofs.LineLaws.{first-some, first-none}
+use Rattle.files.proofs.writes.write_of.Needs as need
+use Rattle.files.proofs.writes.write_of.Needs.{In-Some-next-3, In-Some-next-4, then-is-some·by·then-is-some, then-is-some·by·else-is-some·then-not-is-word}
+
+-- the first word and the others
+one-more : (ls ks : List Part) (x : Part) → Some x ≡ first ls → ks ≡ others ls → ls ≡ x ∷ ks
+one-more ls ks x e h = first-some x ls e ∙ ap (λ zs. x ∷ zs) (sym h)
+
+-- the first four words, and all five, in front of others
+abbrev fourAhead : need.In-Some-next-3 → List Part → List Part
+fourAhead c ls = partOf (c .in-Some .kind) ∷ partOf (c .in-Some-next .register) ∷ partOf (c .in-Some-next-2 .shift) ∷ partOf (c .in-Some-next-3 .width) ∷ ls
+
+abbrev fiveAhead : need.In-Some-next-4 → List Part → List Part
+fiveAhead c ls = fourAhead (need.at·In-Some-next-4 c .In-Some-next-3) (partOf (c .in-Some-next-4 .value) ∷ ls)
+
+four : (c : need.In-Some-next-3) → partsLeft (c .args .words .now) ≡ fourAhead c (partsLeft (c .next-4 .last .self))
+four c =
+    let a = one-more _ _ _ (c .in-Some .ensures tt .part) (c .in-Some .ensures tt .after) in
+    let b = one-more _ _ _ (c .in-Some-next .ensures tt .part) (c .in-Some-next .ensures tt .after) in
+    let d = one-more _ _ _ (c .in-Some-next-2 .ensures tt .part) (c .in-Some-next-2 .ensures tt .after) in
+    let e = one-more _ _ _ (c .in-Some-next-3 .ensures tt .part) (c .in-Some-next-3 .ensures tt .after) in
+    a ∙ ap (λ zs. partOf (c .in-Some .kind) ∷ zs) (b ∙ ap (λ zs. partOf (c .in-Some-next .register) ∷ zs) (d ∙ ap (λ zs. partOf (c .in-Some-next-2 .shift) ∷ zs) e))
+
+five : (c : need.In-Some-next-4) → partsLeft (c .args .words .now) ≡ fiveAhead c (partsLeft (c .next-5 .last .self))
+five c =
+    let before = need.at·In-Some-next-4 c .In-Some-next-3 in
+    four before ∙ ap (fourAhead before) (one-more _ _ _ (c .in-Some-next-4 .ensures tt .part) (c .in-Some-next-4 .ensures tt .after))
+
+-- a sixth word, or none
+sixth : (k r s w v : Part) (ls : List Part) (o : Option Span) → mapped partOf o ≡ first ls → isSome o ≡ true → None ≡ writeFrom (k ∷ r ∷ s ∷ w ∷ v ∷ ls)
+sixth k r s w v [] (Some x) e h = let z : _≡_ {A = Option Part} (Some (partOf x)) None = e in cc
+sixth k r s w v [] None e h = let z : false ≡ true = h in cc
+sixth k r s w v (l ∷ ls) o e h = sym (cond-false _ _ _ (and-left _ _ (ne-eqb (length (k ∷ r ∷ s ∷ w ∷ v ∷ l ∷ ls)) 5 (λ q. omega arith))))
+
+none-left : (ls : List Part) (o : Option Span) → mapped partOf o ≡ first ls → isSome o ≡ false → ls ≡ []
+none-left ls None e h = first-none ls e
+none-left ls (Some x) e h = let z : true ≡ false = h in cc
+
+pub returns-in-rest-next-4 : need.returns-in-rest-next-4
+returns-in-rest-next-4 c =
+    let none = first-none _ (c .in-rest-next-4 .ensures tt .part) in
+    sym (ap writeFrom (four (need.at·returns-in-rest-next-4 c .In-Some-next-3)) ∙ ap (λ zs. writeFrom (fourAhead (need.at·returns-in-rest-next-4 c .In-Some-next-3) zs)) none)
+
+pub returns-then-is-some : need.returns-then-is-some
+returns-then-is-some c =
+    let before = need.at·returns-then-is-some c .In-Some-next-4 in
+    let all = five before in
+    elim (c .then-is-some .came) [
+      | then-is-some·by·then-is-some w ↦ sixth (partOf (c .in-Some .kind)) (partOf (c .in-Some-next .register)) (partOf (c .in-Some-next-2 .shift)) (partOf (c .in-Some-next-3 .width)) (partOf (c .in-Some-next-4 .value)) _ (c .next-6 .result) (c .next-6 .ensures .part) (sym (c .is-some .ensures) ∙ w .if-is-some .taken) ∙ sym (ap writeFrom all)
+      | then-is-some·by·else-is-some·then-not-is-word w ↦
+          let none = none-left _ (c .next-6 .result) (c .next-6 .ensures .part) (sym (c .is-some .ensures) ∙ w .if-is-some .left) in
+          sym (ap writeFrom (all ∙ ap (fiveAhead before) none) ∙ cond-false _ _ _ (sym (w .is-word .ensures) ∙ w .if-not-is-word .taken))
+    ]
+
+pub returns : need.returns
+returns c =
+    let before = need.at·returns c .In-Some-next-4 in
+    let all = five before in
+    let none = none-left _ (c .next-6 .result) (c .next-6 .ensures .part) (sym (c .is-some .ensures) ∙ c .if-is-some .left) in
+    c .entry-of .ensures ∙ sym (ap writeFrom (all ∙ ap (fiveAhead before) none) ∙ cond-true _ _ _ (sym (c .is-word .ensures) ∙ c .if-not-is-word .left))

@@ -1,0 +1,94 @@
+// Reading a line of a script of writes.
+ghost use mathlib.Core.Path.{_≡_};
+ghost use Prim.Native.Nat.{_≤_, _<_, _^_};
+ghost use Rattle.std.specs.Options.{Cases, mapped};
+ghost use Rattle.files.specs.Cutting.{partOf, lineOf, partsLeft};
+ghost use Rattle.files.specs.Numbers.{numberOf};
+ghost use Rattle.files.specs.Writes.{upTo, entryOf, writeFrom, writeIn, writeOr};
+use crate::cutter::Cutter;
+use crate::cutter::Line;
+use crate::fault::FileFault;
+use crate::fault::FileFaultKind;
+use crate::names::is_word;
+use crate::numbers::number;
+use bank::Entry;
+use bank::FieldValue;
+use bank::Place;
+
+// A number of at most 8 bits.
+fn byte(word: &[u8]) -> Option<u8>
+    ensures { λ r. ⌜ r ≡ upTo 255 (numberOf (now (word .entry))) ⌝ }
+{
+    let n = number(word)?;
+    if n > 255 {
+        return None;
+    }
+    Some(n as u8)
+}
+
+// A number of at most 32 bits.
+fn long(word: &[u8]) -> Option<u32>
+    ensures { λ r. ⌜ r ≡ upTo 4294967295 (numberOf (now (word .entry))) ⌝ }
+{
+    let n = number(word)?;
+    if n > 4294967295 {
+        return None;
+    }
+    Some(n as u32)
+}
+
+fn entry_of(register: &[u8], shift: &[u8], width: &[u8], value: &[u8]) -> Option<Entry>
+    ensures { λ r. ⌜ r ≡ entryOf (now (register .entry)) (now (shift .entry)) (now (width .entry)) (now (value .entry)) ⌝ }
+{
+    let register = byte(register)?;
+    let shift = byte(shift)?;
+    let width = byte(width)?;
+    let value = long(value)?;
+    Some(Entry {
+        place: Place {
+            register,
+            shift,
+            width,
+        },
+        value: FieldValue(value),
+    })
+}
+
+fn write_of(words: &mut Cutter) -> Option<Entry>
+    ensures { λ r. ⌜ r ≡ writeFrom (partsLeft (now (words .entry))) ⌝ }
+{
+    let Some(kind) = words.next() else {
+        return None;
+    };
+    let Some(register) = words.next() else {
+        return None;
+    };
+    let Some(shift) = words.next() else {
+        return None;
+    };
+    let Some(width) = words.next() else {
+        return None;
+    };
+    let Some(value) = words.next() else {
+        return None;
+    };
+    if words.next().is_some() || !is_word(kind.bytes, b"w") {
+        return None;
+    }
+    entry_of(register.bytes, shift.bytes, width.bytes, value.bytes)
+}
+
+// The write that a line says, `w REG SHIFT WIDTH VALUE`; a malformed or unended line is refused with its place.
+pub fn read_write(line: &Line) -> Result<Entry, FileFault>
+    ensures { λ r. ⌜ r ≡ writeOr (lineOf (now (line .entry))) ⌝ }
+{
+    let fault = FileFault {
+        kind: FileFaultKind::ScriptLine,
+        place: line.place,
+    };
+    if !line.ended {
+        return Err(fault);
+    }
+    let mut words = line.words();
+    write_of(&mut words).ok_or(fault)
+}
