@@ -69,7 +69,12 @@ fn play_entry<B: Bank>(out: &mut Vec<u8>, bank: &mut B, entry: Entry) -> Result<
 }
 
 // Plays the lines of a script in order, up to a line that is none; at the end of the script the register list follows.
-fn play_script<B: Bank>(out: &mut Vec<u8>, bank: &mut B, make: Make, script: &[u8]) -> Result<(), AllocError>
+fn play_script<B: Bank>(
+    out: &mut Vec<u8>,
+    bank: &mut B,
+    make: Make,
+    script: &[u8],
+) -> Result<(), AllocError>
     ensures { λ r. ⌜ made r (λ _. vec-items (now (out .exit)) ≡ vec-items (now (out .entry)) ++ runFrom (B·Bank .bits) make (B·Bank .words (now (bank .entry))) (linesOf (now (script .entry)))) ⌝ }
 {
     let mut lines = Lines::of(script);
