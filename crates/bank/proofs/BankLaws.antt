@@ -1,6 +1,6 @@
 -- Laws of reading and writing, over any list of words and any width of a word: what is written is read, a write leaves
 -- every field that shares no bit with it, and writing what is there changes nothing.
-use Prim.Native.Nat.{ℕ, _+_, _*_, _/_, _%_, _^_, _<_, _≤_}
+use Prim.Native.Nat.{ℕ, _+_, _*_, _/_, _%_, _^_, _<_, _≤_, min, max}
 use mathlib.Core.Path.{_≡_, refl, sym, ap, subst, _∙_}
 use mathlib.Core.Bool.{Bool, true, false, cond, _&&_, _||_}
 use mathlib.Core.List.{List}
@@ -10,7 +10,7 @@ use lib.Dec.{leb, ltb, eqb}
 use lib.ListN.{length, getD, set}
 use Rattle.std.proofs.shelf.Lists.{length-set, getD-set-same, getD-set-other, set-getD}
 use Rattle.std.proofs.shelf.Bits.{pow-pos, mod-below, shr-split, mod-pow-add}
-use Rattle.std.proofs.shelf.Tests.{cases-bool, cases-eq, cond-true, cond-false, or-parts, and-cases, leb-false, eqb-true, eqb-false, ltb-false, lt-leb, eq-eqb}
+use Rattle.std.proofs.shelf.Tests.{cases-bool, cases-lt, cases-eq, cond-true, cond-false, or-parts, and-cases, leb-false, eqb-true, eqb-false, ltb-false, lt-leb, eq-eqb}
 use Rattle.std.specs.Results.{andOther, isOk}
 use Rattle.std.specs.declared.result.Result.{Result}
 use Rattle.std.specs.declared.result.Result.the-variants.{Ok, Err}
@@ -55,6 +55,20 @@ keeps-length false false words new h = h
 pub count-kept : (bits : ℕ) (words : List ℕ) (at : Place) (value : FieldValue) → length (wordsAfter bits words at value) ≡ length words
 count-kept bits words at value = keeps-length (outside bits (length words) at) (tooWide at value) words (wordsPut words at value) (length-set words _ _)
 
+no-bits : (x l : ℕ) → l ≡ 0 → x % 2 ^ l ≡ 0
+no-bits x l e = ap (λ n. x % 2 ^ n) e ∙ omega arith
+
+-- a field that shares no bit with the one that is replaced: it ends below it, begins above it, or has no bits
+beside-left : (w s k v t l : ℕ) → 0 < k → v < 2 ^ k → min (s + k) (t + l) ≤ max s t → bitsOf (bitsPut w s k v) t l ≡ bitsOf w t l
+beside-left w s k v t l wide fits apart =
+    elim (cases-lt s (t + l)) [
+      | inr le ↦ put-below w s k v t l le
+      | inl lt ↦ elim (cases-lt t (s + k)) [
+        | inr le ↦ put-above w s k v t l fits le
+        | inl gt ↦ no-bits (bitsPut w s k v / 2 ^ t) l (omega arith) ∙ sym (no-bits (w / 2 ^ t) l (omega arith))
+      ]
+    ]
+
 module _ (bits : ℕ) (words : List ℕ) (at : Place) (value : FieldValue) (ok : Accepted bits words at value) where
   abbrev word : ℕ
   word = getD words (at .register) 0
@@ -64,6 +78,9 @@ module _ (bits : ℕ) (words : List ℕ) (at : Place) (value : FieldValue) (ok :
 
   fits : value .0 < 2 ^ at .width
   fits = leb-false (2 ^ at .width) (value .0) (ok .narrow)
+
+  wide : 0 < at .width
+  wide = let ne = eqb-false (at .width) 0 (or-parts _ _ (or-parts _ _ (ok .inside) .1) .0) in elim (cases-lt 0 (at .width)) [ inl lt ↦ lt | inr le ↦ absurd (ne (omega arith)) ]
 
   pub after-accepted : wordsAfter bits words at value ≡ wordsPut words at value
   after-accepted = cond-false _ _ _ (ok .inside) ∙ cond-false _ _ _ (ok .narrow)
@@ -79,11 +96,8 @@ module _ (bits : ℕ) (words : List ℕ) (at : Place) (value : FieldValue) (ok :
   same-field q h e =
       let stored : getD (wordsPut words at value) (q .register) 0 ≡ bitsPut word (at .shift) (at .width) (value .0) = subst (λ r. getD (wordsPut words at value) r 0 ≡ bitsPut word (at .shift) (at .width) (value .0)) e (getD-set-same words (at .register) _ 0 in-list) in
       let here : getD words (q .register) 0 ≡ word = ap (λ r. getD words r 0) (sym e) in
-      let beside : (ltb (at .shift) (q .shift + q .width) && ltb (q .shift) (at .shift + at .width)) ≡ false = elim (and-cases _ _ h) [ inl x ↦ absurd (eqb-false _ _ x e) | inr y ↦ y ] in
-      let left : bitsOf (bitsPut word (at .shift) (at .width) (value .0)) (q .shift) (q .width) ≡ bitsOf word (q .shift) (q .width) = elim (and-cases _ _ beside) [
-        | inl x ↦ put-below word (at .shift) (at .width) (value .0) (q .shift) (q .width) (ltb-false _ _ x)
-        | inr y ↦ put-above word (at .shift) (at .width) (value .0) (q .shift) (q .width) fits (ltb-false _ _ y)
-      ] in
+      let apart : min (at .shift + at .width) (q .shift + q .width) ≤ max (at .shift) (q .shift) = elim (and-cases _ _ h) [ inl x ↦ absurd (eqb-false _ _ x e) | inr y ↦ ltb-false _ _ y ] in
+      let left = beside-left word (at .shift) (at .width) (value .0) (q .shift) (q .width) wide fits apart in
       ap (λ w. bitsOf w (q .shift) (q .width)) stored ∙ (left ∙ ap (λ w. bitsOf w (q .shift) (q .width)) (sym here))
 
   other-field : (q : Place) → (at .register ≡ q .register → ⊥) → fieldIn (wordsPut words at value) q ≡ fieldIn words q

@@ -1,8 +1,8 @@
 -- What a bank answers and what its words are afterwards, over its list of words and how many bits a word has.
 -- Assumes nothing.
-use Prim.Native.Nat.{ℕ, zero, suc, _+_, _^_}
-use mathlib.Core.Bool.{Bool, cond, _||_, _&&_, not}
-use mathlib.Core.List.{List, [], _∷_}
+use Prim.Native.Nat.{ℕ, _+_, _^_, min, max}
+use mathlib.Core.Bool.{Bool, cond, _||_, _&&_}
+use mathlib.Core.List.{List}
 use lib.Dec.{leb, ltb, eqb}
 use lib.ListN.{length, getD, set}
 use Rattle.std.specs.declared.option.Option.{Option}
@@ -52,6 +52,6 @@ wordsAfter bits words at value = cond (outside bits (length words) at) words (co
 abbrev pub wordAt : List ℕ → ℕ → Option ℕ
 wordAt words k = cond (ltb k (length words)) (Some (getD words k 0)) None
 
--- two fields share a bit
+-- two fields share a bit: they lie in one register, and the higher of their first bits is below the lower of their ends
 abbrev pub sharesBit : Place → Place → Bool
-sharesBit p q = eqb (p .register) (q .register) && (ltb (p .shift) (q .shift + q .width) && ltb (q .shift) (p .shift + p .width))
+sharesBit p q = eqb (p .register) (q .register) && ltb (max (p .shift) (q .shift)) (min (p .shift + p .width) (q .shift + q .width))

@@ -1,6 +1,7 @@
 // What holds of reading and writing on every bank, as calls that do it.
 ghost use mathlib.Core.Path.{_≡_};
 ghost use mathlib.Core.Bool.{false};
+ghost use lib.ListN.{length};
 ghost use Rattle.std.specs.Results.{andOther};
 ghost use Rattle.std.specs.declared.result.Result.the-variants.{Ok};
 ghost use Rattle.bank.specs.Banks.{readOf, writeOf, wordsAfter, sharesBit};
@@ -9,7 +10,7 @@ use crate::fault::BankFault;
 use crate::field::FieldValue;
 use crate::field::Place;
 
-// Writes a field and reads it back: what is written is what is read.
+// Writes a field and reads it back: what is written is what is read. The bank has as many words as before.
 pub fn write_then_read<B: Bank>(
     bank: &mut B,
     at: Place,
@@ -17,6 +18,7 @@ pub fn write_then_read<B: Bank>(
 ) -> Result<FieldValue, BankFault>
     ensures answer { λ r. ⌜ r ≡ andOther (writeOf (B·Bank .bits) (B·Bank .words (now (bank .entry))) at value) (Ok value) ⌝ }
     ensures after { λ _. ⌜ B·Bank .words (now (bank .exit)) ≡ wordsAfter (B·Bank .bits) (B·Bank .words (now (bank .entry))) at value ⌝ }
+    ensures count { λ _. ⌜ length (B·Bank .words (now (bank .exit))) ≡ length (B·Bank .words (now (bank .entry))) ⌝ }
 {
     bank.write(at, value)?;
     bank.read(at)

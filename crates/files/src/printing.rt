@@ -139,11 +139,11 @@ pub fn ok_line() -> ShortText
 pub fn no_line(number: u8) -> ShortText
     ensures { λ r. ⌜ holds r ≡ noText number ⌝ }
 {
-    let mut text = ShortText::empty();
-    text.push_all(b"no ");
-    text.push_number(number as u64);
-    text.push_all(b"\n");
-    text
+    let mut line = ShortText::empty();
+    line.push_all(b"no ");
+    line.push_number(number as u64);
+    line.push_all(b"\n");
+    line
 }
 
 // What is printed of a fault in a file.
