@@ -27,12 +27,12 @@ andThen None f = None
 andThen (Some n) f = f n
 
 -- the bytes of the k-th word
-abbrev pub wordAt : List Part → ℕ → List ℕ
-wordAt ws k = getD ws k (record { place = 0; bytes = [] }) .bytes
+abbrev pub wordBytes : List Part → ℕ → List ℕ
+wordBytes ws k = getD ws k (record { place = 0; bytes = [] }) .bytes
 
 -- the write that four words say: register, shift and width of at most 255, and a value of at most 32 bits
-abbrev pub entryOf : List ℕ → List ℕ → List ℕ → List ℕ → Option Entry
-entryOf register shift width value =
+abbrev pub entryFrom : List ℕ → List ℕ → List ℕ → List ℕ → Option Entry
+entryFrom register shift width value =
     andThen (upTo 255 (numberOf register)) (λ r.
     andThen (upTo 255 (numberOf shift)) (λ s.
     andThen (upTo 255 (numberOf width)) (λ w.
@@ -41,7 +41,7 @@ entryOf register shift width value =
 
 -- exactly five words, of which the first is `w`
 abbrev pub writeFrom : List Part → Option Entry
-writeFrom ws = cond (eqb (length ws) 5 && sameBytes (wordAt ws 0) (codes "w")) (entryOf (wordAt ws 1) (wordAt ws 2) (wordAt ws 3) (wordAt ws 4)) None
+writeFrom ws = cond (eqb (length ws) 5 && sameBytes (wordBytes ws 0) (codes "w")) (entryFrom (wordBytes ws 1) (wordBytes ws 2) (wordBytes ws 3) (wordBytes ws 4)) None
 
 -- the write that a line says: its words, and an LF
 abbrev pub writeIn : TextLine → Option Entry

@@ -4,7 +4,7 @@ ghost use Prim.Native.Nat.{_≤_, _<_, _^_};
 ghost use Rattle.std.specs.Options.{Cases, mapped};
 ghost use Rattle.files.specs.Cutting.{partOf, lineOf, partsLeft};
 ghost use Rattle.files.specs.Numbers.{numberOf};
-ghost use Rattle.files.specs.Writes.{upTo, entryOf, writeFrom, writeIn, writeOr};
+ghost use Rattle.files.specs.Writes.{upTo, entryFrom, writeFrom, writeIn, writeOr};
 use crate::cutter::Cutter;
 use crate::cutter::Line;
 use crate::fault::FileFault;
@@ -38,7 +38,7 @@ fn long(word: &[u8]) -> Option<u32>
 }
 
 fn entry_of(register: &[u8], shift: &[u8], width: &[u8], value: &[u8]) -> Option<Entry>
-    ensures { λ r. ⌜ r ≡ entryOf (now (register .entry)) (now (shift .entry)) (now (width .entry)) (now (value .entry)) ⌝ }
+    ensures { λ r. ⌜ r ≡ entryFrom (now (register .entry)) (now (shift .entry)) (now (width .entry)) (now (value .entry)) ⌝ }
 {
     let register = byte(register)?;
     let shift = byte(shift)?;

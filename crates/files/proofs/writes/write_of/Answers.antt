@@ -12,7 +12,7 @@ use Rattle.std.specs.declared.option.Option.the-variants.{Some, None}
 use Rattle.bank.specs.declared.field.Entry.{Entry}
 use Rattle.files.specs.declared.cutter.Span.{Span}
 use Rattle.files.specs.Cutting.{Part, first, others, partOf, partsLeft}
-use Rattle.files.specs.Writes.{entryOf, writeFrom}
+use Rattle.files.specs.Writes.{entryFrom, writeFrom}
 use Rattle.files.proofs.LineLaws.{first-some, first-none}
 use Rattle.files.proofs.writes.write_of.Needs as need
 use Rattle.files.proofs.writes.write_of.Needs.{In-Some-next-3, In-Some-next-4, then-is-some·by·then-is-some, then-is-some·by·else-is-some·then-not-is-word}
