@@ -1,4 +1,4 @@
 pub mod FieldBits
 pub mod DeviceWords
 pub mod BankLaws
-pub mod Steps
+pub mod EntrySteps

@@ -33,17 +33,22 @@ more-fits base n d i k h l q =
     let z : 0 < base = omega arith in
     let p : base ^ (i + 1) ≤ base ^ k = pow-le-pow-right z (omega arith) in omega (arith, more-below base n d i h l)
 
+-- where a number is read, the first byte is a digit
+pub digit-first : (base m b n : ℕ) (bs : List ℕ) → valueOn base m (b ∷ bs) ≡ Some n → (digitValue b < base) × (valueOn base (m * base + digitValue b) bs ≡ Some n)
+digit-first base m b n bs e = elim (cases-bool (ltb (digitValue b) base)) [
+  | inl t ↦ (ltb-true (digitValue b) base t, sym (cond-true _ _ _ t) ∙ e)
+  | inr t ↦ absurd (let z : _≡_ {A = ℕ} 0 1 = let x = sym (cond-false _ (valueOn base (m * base + digitValue b) bs) None t) ∙ e in cc in omega arith)
+]
+
 -- k digits and then those of w write a number below base ^ (k + length w)
 pub value-below : (base n : ℕ) (w : List ℕ) (k m : ℕ) → n < base ^ k → valueOn base n w ≡ Some m → m < base ^ (k + length w)
 value-below base n [] k m h e =
     let q : n ≡ m = cc in
     let p : k + 0 ≡ k = omega arith in rw p (rw (sym q) h)
-value-below base n (b ∷ bs) k m h e = elim (cases-bool (ltb (digitValue b) base)) [
-  | inl t ↦
-      let p : k + 1 + length bs ≡ k + suc (length bs) = omega arith in
-      rw (sym p) (value-below base (n * base + digitValue b) bs (k + 1) m (more-below base n (digitValue b) k h (ltb-true (digitValue b) base t)) (sym (cond-true _ _ _ t) ∙ e))
-  | inr t ↦ absurd (let z : _≡_ {A = ℕ} 0 1 = let x = sym (cond-false _ (valueOn base (n * base + digitValue b) bs) None t) ∙ e in cc in omega arith)
-]
+value-below base n (b ∷ bs) k m h e =
+    let f = digit-first base n b m bs e in
+    let p : k + 1 + length bs ≡ k + suc (length bs) = omega arith in
+    rw (sym p) (value-below base (n * base + digitValue b) bs (k + 1) m (more-below base n (digitValue b) k h (f .0)) (f .1))
 
 -- a word of 8 hexadecimal digits loses nothing in 32 bits
 pub hex-whole : (w : List ℕ) (n : ℕ) → length w ≡ 8 → Some n ≡ valueOn 16 0 w → Some (bitAnd n 4294967295) ≡ hexWordOf w

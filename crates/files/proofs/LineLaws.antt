@@ -1,4 +1,4 @@
--- Laws for the readers of lines and words: what an item says of what was left, and that printed parts, lines and digits are read back.
+-- Laws for the readers of lines and words: what an item says of what was left, and that printed spans, lines and digits are read back.
 use mathlib.Core.Path.{_≡_, refl, sym, ap, _∙_}
 use mathlib.Core.Bool.{true, false}
 use mathlib.Core.Logic.{inl, inr}
@@ -16,10 +16,10 @@ use Rattle.std.proofs.shelf.Bits.{div-below, mod-below}
 use Rattle.std.proofs.shelf.Elements.{all-push}
 use Rattle.std.proofs.shelf.Lists.{append-nil, append-assoc, length-push}
 use Rattle.std.proofs.shelf.Tests.{cases-lt, cond-true, cond-false, cond-both, eq-eqb, ne-eqb, lt-ltb, le-ltb, le-leb, lt-leb, and-from, and-right}
-use Rattle.files.specs.Cutting.{partsOf, grown, linesFrom, first, others}
+use Rattle.files.specs.Cutting.{spansOf, grown, linesFrom, first, others}
 use Rattle.files.specs.Numbers.{digitValue, valueOn, hexWordOf}
 use Rattle.files.specs.Printing.{hexByte, hexDigits}
-use Rattle.files.proofs.PartSteps.{lines-more}
+use Rattle.files.proofs.SpanSteps.{lines-more}
 
 -- ---- an item that was given is the first of what was left
 
@@ -41,26 +41,26 @@ from-none f r ls e h = first-none ls (sym (ap (mapped f) e) ∙ h)
 pub fewer-left : {A B : Type 0} (f : A → B) (r : Option A) (x : A) (ls ks : List B) → r ≡ Some x → mapped f r ≡ first ls → ks ≡ others ls → length ks < length ls
 fewer-left f r x ls ks e h k = let a = ap length (from-some f r x ls e h) in let b = ap length k in omega arith
 
--- ---- parts and lines are read back
+-- ---- spans and lines are read back
 
 -- none of the bytes is the mark
 abbrev pub Free : ℕ → List ℕ → Type 0
 Free mark w = All (λ b. eqb b mark ≡ false) w
 
-pub part-front : (mark p : ℕ) (w rest : List ℕ) → Free mark w → partsOf mark p (w ++ (mark ∷ rest)) ≡ record { place = p; bytes = w } ∷ partsOf mark (p + length w + 1) rest
-part-front mark p [] rest h =
+pub span-front : (mark p : ℕ) (w rest : List ℕ) → Free mark w → spansOf mark p (w ++ (mark ∷ rest)) ≡ record { place = p; bytes = w } ∷ spansOf mark (p + length w + 1) rest
+span-front mark p [] rest h =
     let q : p + 1 ≡ p + 0 + 1 = omega arith in
-    cond-true _ _ _ (eq-eqb mark mark refl) ∙ ap (λ k. record { place = p; bytes = [] } ∷ partsOf mark k rest) q
-part-front mark p (b ∷ bs) rest h =
+    cond-true _ _ _ (eq-eqb mark mark refl) ∙ ap (λ k. record { place = p; bytes = [] } ∷ spansOf mark k rest) q
+span-front mark p (b ∷ bs) rest h =
     let q : p + 1 + length bs + 1 ≡ p + suc (length bs) + 1 = omega arith in
-    cond-false _ _ _ (h .0) ∙ (ap (grown p b) (part-front mark (p + 1) bs rest (h .1)) ∙ ap (λ k. record { place = p; bytes = b ∷ bs } ∷ partsOf mark k rest) q)
+    cond-false _ _ _ (h .0) ∙ (ap (grown p b) (span-front mark (p + 1) bs rest (h .1)) ∙ ap (λ k. record { place = p; bytes = b ∷ bs } ∷ spansOf mark k rest) q)
 
-pub part-alone : (mark p : ℕ) (w : List ℕ) → Free mark w → partsOf mark p w ≡ record { place = p; bytes = w } ∷ []
-part-alone mark p [] h = refl
-part-alone mark p (b ∷ bs) h = cond-false _ _ _ (h .0) ∙ ap (grown p b) (part-alone mark (p + 1) bs (h .1))
+pub span-alone : (mark p : ℕ) (w : List ℕ) → Free mark w → spansOf mark p w ≡ record { place = p; bytes = w } ∷ []
+span-alone mark p [] h = refl
+span-alone mark p (b ∷ bs) h = cond-false _ _ _ (h .0) ∙ ap (grown p b) (span-alone mark (p + 1) bs (h .1))
 
-pub line-front : (p : ℕ) (w rest : List ℕ) → Free 10 w → linesFrom (partsOf 10 p (w ++ (10 ∷ rest))) ≡ record { place = p; bytes = w; ended = true } ∷ linesFrom (partsOf 10 (p + length w + 1) rest)
-line-front p w rest h = ap linesFrom (part-front 10 p w rest h) ∙ lines-more _ 10 (p + length w + 1) rest
+pub line-front : (p : ℕ) (w rest : List ℕ) → Free 10 w → linesFrom (spansOf 10 p (w ++ (10 ∷ rest))) ≡ record { place = p; bytes = w; ended = true } ∷ linesFrom (spansOf 10 (p + length w + 1) rest)
+line-front p w rest h = ap linesFrom (span-front 10 p w rest h) ∙ lines-more _ 10 (p + length w + 1) rest
 
 -- ---- hexadecimal digits are read back
 

@@ -17,14 +17,14 @@ use Rattle.bank.specs.Fields.{EachFits}
 use Rattle.files.specs.declared.fault.FileFault.{FileFault}
 use Rattle.files.specs.declared.list.Make.{Make}
 use Rattle.files.specs.declared.list.Make.the-variants.{Word, Mask}
-use Rattle.files.specs.Cutting.{TextLine, partsOf, linesFrom}
+use Rattle.files.specs.Cutting.{TextLine, spansOf, linesFrom}
 use Rattle.files.specs.Numbers.{hexWordOf}
 use Rattle.files.specs.Printing.{hexDigits, wordText, registersText}
 use Rattle.files.specs.Registers.{makeName, makeBits, makeOf, fitting, beforeRest, wordsFrom, withWords, makeOr, afterMake, registersFrom, registersOf, Readable}
 use Rattle.files.proofs.LineLaws.{Free, line-front, free-hexDigits, word-hexDigits}
 
-line-back : (p : ℕ) (w rest : List ℕ) → Free 10 w → linesFrom (partsOf 10 p (w ++ codes "\n" ++ rest)) ≡ record { place = p; bytes = w; ended = true } ∷ linesFrom (partsOf 10 (p + length w + 1) rest)
-line-back p w rest h = ap (λ bs. linesFrom (partsOf 10 p bs)) (append-assoc w (codes "\n") rest) ∙ line-front p w rest h
+line-back : (p : ℕ) (w rest : List ℕ) → Free 10 w → linesFrom (spansOf 10 p (w ++ codes "\n" ++ rest)) ≡ record { place = p; bytes = w; ended = true } ∷ linesFrom (spansOf 10 (p + length w + 1) rest)
+line-back p w rest h = ap (λ bs. linesFrom (spansOf 10 p bs)) (append-assoc w (codes "\n") rest) ∙ line-front p w rest h
 
 name-free : (make : Make) → Free 10 (makeName make)
 name-free Word = (refl, (refl, (refl, (refl, tt))))
@@ -44,7 +44,7 @@ word-back make w h = ap (fitting make) (word-hexDigits w (in-32-bits make w h)) 
 in-front : (o : Option ℕ) (w : ℕ) (f : FileFault) (r : Result (List ℕ) FileFault) (ws : List ℕ) → o ≡ Some w → r ≡ Ok ws → beforeRest o f r ≡ Ok (w ∷ ws)
 in-front o w f r ws e h = rw (e, h)
 
-words-back : (make : Make) (words : List ℕ) (room p : ℕ) → length words ≤ room → EachFits (makeBits make) words → wordsFrom make room (linesFrom (partsOf 10 p (joined wordText words))) ≡ Ok words
+words-back : (make : Make) (words : List ℕ) (room p : ℕ) → length words ≤ room → EachFits (makeBits make) words → wordsFrom make room (linesFrom (spansOf 10 p (joined wordText words))) ≡ Ok words
 words-back make [] room p h fit = refl
 words-back make (w ∷ ws) room p h fit =
     ap (wordsFrom make room) (line-back p (hexDigits 8 w) (joined wordText ws) (free-hexDigits 10 (omega arith) 8 w))

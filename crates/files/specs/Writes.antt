@@ -12,7 +12,7 @@ use Rattle.std.specs.declared.option.Option.the-variants.{Some, None}
 use Rattle.std.specs.declared.result.Result.{Result}
 use Rattle.std.specs.shelf.Text.{sameBytes}
 use Rattle.files.specs.declared.fault.FileFault.{FileFault}
-use Rattle.files.specs.Cutting.{Part, TextLine, wordsOf}
+use Rattle.files.specs.Cutting.{TextSpan, TextLine, wordsOf}
 use Rattle.files.specs.Faults.{badScript}
 use Rattle.files.specs.Numbers.{numberOf}
 
@@ -27,7 +27,7 @@ andThen None f = None
 andThen (Some n) f = f n
 
 -- the bytes of the k-th word
-abbrev pub wordBytes : List Part → ℕ → List ℕ
+abbrev pub wordBytes : List TextSpan → ℕ → List ℕ
 wordBytes ws k = getD ws k (record { place = 0; bytes = [] }) .bytes
 
 -- the write that four words say: register, shift and width of at most 255, and a value of at most 32 bits
@@ -40,7 +40,7 @@ entryFrom register shift width value =
     Some (record { place = record { register = r; shift = s; width = w }; value = record { 0 = v } })))))
 
 -- exactly five words, of which the first is `w`
-abbrev pub writeFrom : List Part → Option Entry
+abbrev pub writeFrom : List TextSpan → Option Entry
 writeFrom ws = cond (eqb (length ws) 5 && sameBytes (wordBytes ws 0) (codes "w")) (entryFrom (wordBytes ws 1) (wordBytes ws 2) (wordBytes ws 3) (wordBytes ws 4)) None
 
 -- the write that a line says: its words, and an LF

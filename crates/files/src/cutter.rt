@@ -1,8 +1,9 @@
+// The spans that a text is cut into, and what cuts it. Each span is a slice of the text with the byte place at which it begins.
 ghost use Prim.Native.Nat.{_≤_, _+_, _<_, _^_};
 ghost use lib.ListN.{length};
 ghost use denote.Ref.{now};
 
-// A part of a text, with the byte place at which it begins.
+// A span of a text, with the byte place at which it begins.
 #[derive(Clone, Copy)]
 pub struct Span<'a> {
     pub place: usize,
@@ -18,7 +19,7 @@ pub struct Line<'a> {
     pub ended: bool,
 }
 
-// A text that begins at the byte place `start`, cut at each byte `mark`: the next part begins at `at`.
+// A text that begins at the byte place `start`, cut at each byte `mark`: the next span begins at `at`.
 #[derive(Clone, Copy)]
 pub struct Cutter<'a> {
     pub(crate) text: &'a [u8],

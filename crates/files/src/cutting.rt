@@ -1,4 +1,4 @@
-// Cutting a text into lines and a line into words. Nothing is copied: each part is a slice of the text.
+// Cutting a text into lines and a line into words. Nothing is copied: each span is a slice of the text.
 ghost use mathlib.Core.Path.{_≡_};
 ghost use Prim.Native.Nat.{_+_, _<_, _≤_};
 ghost use lib.ListN.{length, drop};
@@ -6,14 +6,14 @@ ghost use mathlib.Core.Bool.{not};
 ghost use lib.Dec.{eqb};
 ghost use Rattle.std.specs.Options.{mapped};
 ghost use Rattle.std.specs.shelf.Lists.{leading};
-ghost use Rattle.files.specs.Cutting.{wordsOf, linesOf, first, others, partOf, lineOf, partsLeft, linesLeft};
+ghost use Rattle.files.specs.Cutting.{wordsOf, linesOf, first, others, spanOf, lineOf, spansLeft, linesLeft};
 use crate::cutter::Cutter;
 use crate::cutter::Line;
 use crate::cutter::Lines;
 use crate::cutter::Span;
 
-// Where the part that begins at `from` ends: at the next `mark`, or at the text's end.
-fn part_end(text: &[u8], from: usize, mark: u8) -> usize
+// Where the span that begins at `from` ends: at the next `mark`, or at the text's end.
+fn span_end(text: &[u8], from: usize, mark: u8) -> usize
     requires { ⌜ from ≤ length (now text) ⌝ }
     ensures end { λ r. ⌜ r ≡ from + leading (λ b. not (eqb b mark)) (drop from (now (text .entry))) ⌝ }
     ensures within { λ r. ⌜ r ≤ length (now (text .entry)) ⌝ }
@@ -27,10 +27,10 @@ fn part_end(text: &[u8], from: usize, mark: u8) -> usize
 }
 
 impl<'a> Cutter<'a> {
-    // The next part, or none once the last was given.
+    // The next span, or none once the last was given.
     pub fn next(&mut self) -> Option<Span<'a>>
-        ensures part { λ r. ⌜ mapped partOf r ≡ first (partsLeft (now (self .entry))) ⌝ }
-        ensures after { λ _. ⌜ partsLeft (now (self .exit)) ≡ others (partsLeft (now (self .entry))) ⌝ }
+        ensures span { λ r. ⌜ mapped spanOf r ≡ first (spansLeft (now (self .entry))) ⌝ }
+        ensures after { λ _. ⌜ spansLeft (now (self .exit)) ≡ others (spansLeft (now (self .entry))) ⌝ }
     {
         if self.done {
             return None;
@@ -38,7 +38,7 @@ impl<'a> Cutter<'a> {
         let text = self.text;
         let from = self.at;
         let place = self.start + from;
-        let end = part_end(text, from, self.mark);
+        let end = span_end(text, from, self.mark);
         if end == text.len() {
             self.done = true;
             return Some(Span {
@@ -64,7 +64,7 @@ impl<'a> Line<'a> {
 
     // The words of the line.
     pub fn words(&self) -> Cutter<'a>
-        ensures { λ r. ⌜ partsLeft r ≡ wordsOf (lineOf (now (self .entry)) .place) (lineOf (now (self .entry)) .bytes) ⌝ }
+        ensures { λ r. ⌜ spansLeft r ≡ wordsOf (lineOf (now (self .entry)) .place) (lineOf (now (self .entry)) .bytes) ⌝ }
     {
         Cutter {
             text: self.bytes(),
@@ -77,6 +77,7 @@ impl<'a> Line<'a> {
 }
 
 impl<'a> Lines<'a> {
+    // The lines of a text, none of them given yet.
     pub fn of(text: &'a [u8]) -> Lines<'a>
         ensures { λ r. ⌜ linesLeft r ≡ linesOf (now (text .entry)) ⌝ }
     {
@@ -93,7 +94,7 @@ impl<'a> Lines<'a> {
         if place == text.len() {
             return None;
         }
-        let end = part_end(text, place, b'\n');
+        let end = span_end(text, place, b'\n');
         let ended = end < text.len();
         self.at = if ended { end + 1 } else { end };
         Some(Line {

@@ -1,11 +1,14 @@
 // What is printed: writes, answers, faults and register lists. Each line is a short text, which is printed into a lent buffer
 // whole or not at all.
 ghost use mathlib.Core.Path.{_≡_};
-ghost use mathlib.Core.List.{[], _∷_, _++_};
+ghost use mathlib.Core.List.{[], _∷_, _++_, map};
 ghost use Prim.Native.Nat.{_+_, _<_, _≤_};
 ghost use lib.ListN.{length};
 ghost use lib.Seq.{paste};
 ghost use Rattle.std.specs.Written.{decimal};
+ghost use Rattle.std.specs.declared.option.Option.the-variants.{Some};
+ghost use Rattle.files.specs.Cutting.{linesOf};
+ghost use Rattle.files.specs.Writes.{writeIn};
 ghost use Rattle.files.specs.Printing.{holds, hexByte, hexDigits, writeText, okText, noText, noAtText, makeText, wordText, registersText, printOf, printAfter};
 ghost use Rattle.files.specs.Registers.{Readable, registersOf};
 ghost use Rattle.std.specs.declared.result.Result.the-variants.{Ok};
@@ -109,9 +112,10 @@ impl ShortText {
     }
 }
 
-// A write: `w REG SHIFT WIDTH VALUE`.
+// A write: `w REG SHIFT WIDTH VALUE`. Read as a line of a script, it is that write again.
 pub fn write_line(entry: Entry) -> ShortText
-    ensures { λ r. ⌜ holds r ≡ writeText entry ⌝ }
+    ensures text { λ r. ⌜ holds r ≡ writeText entry ⌝ }
+    ensures reads_back { λ _. ⌜ map writeIn (linesOf (writeText entry)) ≡ Some entry ∷ [] ⌝ }
 {
     let mut text = ShortText::empty();
     text.push_all(b"w ");

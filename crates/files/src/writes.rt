@@ -1,8 +1,12 @@
 // Reading a line of a script of writes.
 ghost use mathlib.Core.Path.{_≡_};
+ghost use mathlib.Core.List.{_++_};
+ghost use lib.Chars.{codes};
+ghost use Rattle.std.specs.Vec.{made};
+ghost use Rattle.files.specs.Printing.{writeText};
 ghost use Prim.Native.Nat.{_≤_, _<_, _^_};
 ghost use Rattle.std.specs.Options.{Cases, mapped};
-ghost use Rattle.files.specs.Cutting.{partOf, lineOf, partsLeft};
+ghost use Rattle.files.specs.Cutting.{spanOf, lineOf, spansLeft};
 ghost use Rattle.files.specs.Numbers.{numberOf};
 ghost use Rattle.files.specs.Writes.{upTo, entryFrom, writeFrom, writeIn, writeOr};
 use crate::cutter::Cutter;
@@ -55,7 +59,7 @@ fn entry_of(register: &[u8], shift: &[u8], width: &[u8], value: &[u8]) -> Option
 }
 
 fn write_of(words: &mut Cutter) -> Option<Entry>
-    ensures { λ r. ⌜ r ≡ writeFrom (partsLeft (now (words .entry))) ⌝ }
+    ensures { λ r. ⌜ r ≡ writeFrom (spansLeft (now (words .entry))) ⌝ }
 {
     let Some(kind) = words.next() else {
         return None;
@@ -78,9 +82,11 @@ fn write_of(words: &mut Cutter) -> Option<Entry>
     entry_of(register.bytes, shift.bytes, width.bytes, value.bytes)
 }
 
-// The write that a line says, `w REG SHIFT WIDTH VALUE`; a malformed or unended line is refused with its place.
+// The write that a line says, `w REG SHIFT WIDTH VALUE`; a malformed or unended line is refused with its place. What is read is
+// printed as the line itself.
 pub fn read_write(line: &Line) -> Result<Entry, FileFault>
-    ensures { λ r. ⌜ r ≡ writeOr (lineOf (now (line .entry))) ⌝ }
+    ensures answer { λ r. ⌜ r ≡ writeOr (lineOf (now (line .entry))) ⌝ }
+    ensures prints_back { λ r. ⌜ made r (λ e. writeText e ≡ lineOf (now (line .entry)) .bytes ++ codes "\n") ⌝ }
 {
     let fault = FileFault {
         kind: FileFaultKind::ScriptLine,

@@ -11,5 +11,5 @@ loop-line-again g c =
     let lines = linesLeft (c .loop-line .lines) in
     let some = from-some lineOf (c .next .result) (c .in-Some .line) lines (c .in-Some .is) (c .next .ensures .line) in
     line-played (b .bits) (c .args .make) (vec-items (c .loop-line .out)) (vec-items (c .play-entry .last .out)) (b .words (c .loop-line .bank)) (b .words (c .play-entry .last .bank)) (lineOf (c .in-Some .line)) lines (linesLeft (c .next .last .self)) (c .in-Ok .entry) some (c .next .ensures .after)
-    (c .in-Ok .ensures tt) (c .in-Continue-play-entry .ensures tt .after) (c .in-Continue-play-entry .ensures tt .text)
+    (c .in-Ok .ensures tt .answer) (c .in-Continue-play-entry .ensures tt .after) (c .in-Continue-play-entry .ensures tt .text)
     ∙ c .loop-line .inv

@@ -4,7 +4,7 @@ use lib.ListN.{drop}
 use Rattle.std.proofs.shelf.Lists.{at-drop-all}
 use Rattle.std.proofs.shelf.Results.{err-from-errBy}
 use Rattle.bank.specs.Entries.{playOf, playAfter}
-use Rattle.bank.proofs.Steps.{answer-more, after-more, answer-stop, after-stop, words-stop}
+use Rattle.bank.proofs.EntrySteps.{answer-more, after-more, answer-stop, after-stop, words-stop}
 use Rattle.bank.proofs.playing.play.Needs as need
 
 pub loop-e-again : need.loop-e-again

@@ -1,5 +1,6 @@
 use borrow.Author.Needs.{needs}
 use Rattle.files.proofs.PrintSteps.{length-byte, length-word}
+use Rattle.files.proofs.WriteBack.{write-there}
 use Rattle.files.proofs.printing.write_line.Needs as need
 
 pub push-number-requires : need.push-number-requires
@@ -25,3 +26,6 @@ push-number-requires-4 c κs = search (needs, length-byte, length-word)
 
 pub push-all-requires-5 : need.push-all-requires-5
 push-all-requires-5 c κs = search (needs, length-byte, length-word)
+
+pub returns : need.returns
+returns c = search (needs, write-there)

@@ -3,8 +3,8 @@ use mathlib.Core.List.{_∷_}
 use native.Mathlib.Omega.{arith}
 use lib.Dec.{ltb}
 use lib.ListN.{length, take, drop}
-use Rattle.files.specs.Cutting.{first, others, partsOf, linesFrom}
-use Rattle.files.proofs.PartSteps.{line-more, line-last, lines-end}
+use Rattle.files.specs.Cutting.{first, others, spansOf, linesFrom}
+use Rattle.files.proofs.SpanSteps.{line-more, line-last, lines-end}
 use Rattle.files.proofs.cutter.Lines.next.Needs as need
 use Rattle.files.proofs.cutter.Lines.next.Needs.{then-ended, else-ended}
 
@@ -15,8 +15,8 @@ returns-then-place-text c =
 
 pub returns : need.returns
 returns c =
-    let e : linesFrom (partsOf 10 (c .args .self .now .at) (drop (c .args .self .now .at) (c .args .self .now .text .now))) ≡ record { place = c .args .self .now .at; bytes = drop (c .args .self .now .at) (take (c .part-end-end .result) (c .args .self .now .text .now)); ended = ltb (c .part-end-end .result) (length (c .args .self .now .text .now)) } ∷ linesFrom (partsOf 10 (c .if-ended .self) (drop (c .if-ended .self) (c .args .self .now .text .now))) = elim (c .if-ended .came) [
-      | then-ended w ↦ line-more (c .args .self .now .at) (c .part-end-end .result) (c .args .self .now .text .now) (c .part-end-end .ensures .end) (c .if-ended .self) (w .self-is) (w .if-ended .taken)
-      | else-ended w ↦ line-last (c .args .self .now .at) (c .part-end-end .result) (c .args .self .now .text .now) (c .part-end-end .ensures .end) (c .if-ended .self) (w .self-is) (omega arith) (omega arith)
+    let e : linesFrom (spansOf 10 (c .args .self .now .at) (drop (c .args .self .now .at) (c .args .self .now .text .now))) ≡ record { place = c .args .self .now .at; bytes = drop (c .args .self .now .at) (take (c .span-end-end .result) (c .args .self .now .text .now)); ended = ltb (c .span-end-end .result) (length (c .args .self .now .text .now)) } ∷ linesFrom (spansOf 10 (c .if-ended .self) (drop (c .if-ended .self) (c .args .self .now .text .now))) = elim (c .if-ended .came) [
+      | then-ended w ↦ line-more (c .args .self .now .at) (c .span-end-end .result) (c .args .self .now .text .now) (c .span-end-end .ensures .end) (c .if-ended .self) (w .self-is) (w .if-ended .taken)
+      | else-ended w ↦ line-last (c .args .self .now .at) (c .span-end-end .result) (c .args .self .now .text .now) (c .span-end-end .ensures .end) (c .if-ended .self) (w .self-is) (omega arith) (omega arith)
     ] in
     record { line = sym (ap first e); after = sym (ap others e) }

@@ -3,7 +3,7 @@ use lib.Dec.{eqb}
 use mathlib.Core.Bool.{not}
 use Rattle.std.proofs.shelf.Sums.{leading-drop-yes, leading-drop-no, leading-drop-all}
 use Rattle.std.proofs.shelf.Tests.{eq-eqb, ne-eqb, not-from-true, not-from-false}
-use Rattle.files.proofs.cutting.part_end.Needs as need
+use Rattle.files.proofs.cutting.span_end.Needs as need
 
 pub returns-then-text-i : need.returns-then-text-i
 returns-then-text-i c =
