@@ -2,16 +2,14 @@
 -- every field that shares no bit with it, and writing what is there changes nothing.
 use Prim.Native.Nat.{ℕ, _+_, _*_, _/_, _%_, _^_, _<_, _≤_, min, max}
 use mathlib.Core.Path.{_≡_, refl, sym, ap, subst, _∙_}
-use mathlib.Core.Bool.{Bool, true, false, cond, _&&_, _||_}
+use mathlib.Core.Bool.{Bool, true, false, cond}
 use mathlib.Core.List.{List}
 use mathlib.Core.Logic.{inl, inr}
 use native.Mathlib.Omega.{arith}
-use lib.Dec.{leb, ltb, eqb}
 use lib.ListN.{length, getD, set}
 use Rattle.std.proofs.shelf.Lists.{length-set, getD-set-same, getD-set-other, set-getD}
 use Rattle.std.proofs.shelf.Bits.{pow-pos, mod-below, shr-split, mod-pow-add}
-use Rattle.std.proofs.shelf.Tests.{cases-bool, cases-lt, cases-eq, cond-true, cond-false, or-parts, and-cases, leb-false, eqb-true, eqb-false, ltb-false, lt-leb, eq-eqb}
-use Rattle.std.specs.Results.{andOther, isOk}
+use Rattle.std.proofs.shelf.Tests.{cases-lt, cases-eq, cond-false, or-parts, and-cases, leb-false, eqb-false, ltb-false, lt-leb}
 use Rattle.std.specs.declared.result.Result.{Result}
 use Rattle.std.specs.declared.result.Result.the-variants.{Ok, Err}
 use Rattle.bank.specs.declared.field.Place.{Place}

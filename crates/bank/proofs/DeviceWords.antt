@@ -1,14 +1,14 @@
 -- The device word of a mask bank has 32 bits, and the device replaces exactly the field by it.
 use Prim.Native.Nat.{ℕ, _+_, _-_, _*_, _/_, _%_, _^_, _<_, _≤_}
-use mathlib.Core.Path.{_≡_, refl, sym, ap, subst, _∙_}
+use mathlib.Core.Path.{_≡_, refl, sym, ap, _∙_}
 use mathlib.Core.Bool.{Bool, true, false, cond, _||_}
 use mathlib.Core.List.{List}
 use native.Mathlib.Omega.{arith}
 use native.Mathlib.Nat.{add-comm, mod-eq-of-lt}
-use lib.Bits.{bitAnd, bitOr, and-high, and-le-l, and-le-r, or-lt, or-add-and}
+use lib.Bits.{bitAnd, and-high, and-le-l, and-le-r, or-lt, or-add-and}
 use lib.Pow.{pow-mono}
-use Rattle.std.proofs.shelf.Bits.{pow-pos, pow-add, one-shl, shl-shr, shr-split, mod-pow-add, shl-below, shr-high, mod-low}
-use Rattle.bank.specs.Fields.{bitsOf, bitsPut}
+use Rattle.std.proofs.shelf.Bits.{pow-pos, one-shl, shl-shr, shr-split, mod-pow-add, shr-high, mod-low}
+use Rattle.bank.specs.Fields.{bitsPut}
 use Rattle.bank.specs.Masks.{deviceWord, deviceWordOf, taken, sent}
 use lib.Dec.{leb, ltb, eqb}
 use lib.ListN.{length, getD, set}

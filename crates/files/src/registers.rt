@@ -1,8 +1,8 @@
 // Reading a register list from text.
 ghost use mathlib.Core.Path.{_≡_};
 ghost use mathlib.Core.List.{map};
-ghost use Prim.Native.Nat.{ℕ, _%_, _^_, _≤_};
-ghost use lib.ListN.{length, take};
+ghost use Prim.Native.Nat.{_%_, _^_, _≤_};
+ghost use lib.ListN.{take};
 ghost use Rattle.std.specs.Of.Vec.{vec-items};
 ghost use Rattle.std.specs.Results.{Cases};
 ghost use Rattle.std.specs.Vec.{made};

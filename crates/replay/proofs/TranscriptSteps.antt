@@ -1,26 +1,23 @@
 -- What is printed, one step at a time: a word of the register list, and a line of the script.
 use Prim.Native.Nat.{ℕ, _+_, _≤_, _<_}
-use mathlib.Core.Path.{_≡_, refl, sym, ap, _∙_}
-use mathlib.Core.Bool.{true, false, cond}
+use mathlib.Core.Path.{_≡_, sym, ap, _∙_}
 use mathlib.Core.List.{List, [], _∷_, _++_}
 use native.Mathlib.Omega.{arith}
 use lib.ListN.{length, getD, take}
 use Rattle.std.specs.Joined.{joined}
 use Rattle.std.specs.declared.option.Option.{Option}
 use Rattle.std.specs.declared.option.Option.the-variants.{Some, None}
-use Rattle.std.specs.declared.result.Result.{Result}
-use Rattle.std.specs.declared.result.Result.the-variants.{Ok, Err}
+use Rattle.std.specs.declared.result.Result.the-variants.{Ok}
 use Rattle.std.proofs.shelf.Lists.{append-assoc, joined-more, take-more, take-all}
 use Rattle.std.proofs.shelf.Tests.{cond-true, lt-ltb}
 use Rattle.bank.specs.declared.field.Entry.{Entry}
 use Rattle.bank.specs.Banks.{wordAt}
 use Rattle.bank.specs.Entries.{entryOf, entryAfter}
-use Rattle.files.specs.declared.fault.FileFault.{FileFault}
 use Rattle.files.specs.declared.list.Make.{Make}
 use Rattle.files.specs.Cutting.{TextLine, others}
 use Rattle.files.specs.Printing.{makeText, wordText, registersText, writeText}
 use Rattle.files.specs.Writes.{writeOr}
-use Rattle.replay.specs.Transcripts.{answerText, faultText, lineRun, runFrom}
+use Rattle.replay.specs.Transcripts.{answerText, lineRun, runFrom}
 
 same-some : (v w : ℕ) → _≡_ {A = Option ℕ} (Some v) (Some w) → v ≡ w
 same-some v w h = cc

@@ -1,4 +1,4 @@
-use mathlib.Core.Path.{_≡_, sym, ap, _∙_}
+use mathlib.Core.Path.{_∙_}
 use Rattle.std.specs.Of.Vec.{vec-items}
 use Rattle.files.specs.Cutting.{lineOf, linesLeft}
 use Rattle.files.proofs.LineLaws.{from-some}

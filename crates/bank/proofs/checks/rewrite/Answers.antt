@@ -1,4 +1,4 @@
-use mathlib.Core.Path.{_≡_, sym, _∙_}
+use mathlib.Core.Path.{sym, _∙_}
 use Rattle.bank.proofs.BankLaws.{same-changes-nothing}
 use Rattle.bank.proofs.checks.rewrite.Needs as need
 

@@ -1,4 +1,4 @@
-use mathlib.Core.Path.{_≡_, sym, ap, _∙_}
+use mathlib.Core.Path.{sym, ap, _∙_}
 use Rattle.std.specs.Results.{andOther}
 use Rattle.bank.specs.Banks.{readOf, wordsAfter}
 use Rattle.bank.proofs.BankLaws.{accepted, others-are-left}

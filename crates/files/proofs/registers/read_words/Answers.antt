@@ -1,10 +1,10 @@
-use Prim.Native.Nat.{_<_, _-_, _+_}
+use Prim.Native.Nat.{_-_, _+_}
 use mathlib.Core.Path.{_≡_, sym, ap, _∙_}
 use mathlib.Core.List.{_++_, _∷_, []}
 use native.Mathlib.Omega.{arith}
-use lib.ListN.{length, take, set}
+use lib.ListN.{take}
 use Rattle.std.proofs.shelf.Lists.{length-set, take-more-set}
-use Rattle.files.specs.Cutting.{lineOf, linesLeft, others}
+use Rattle.files.specs.Cutting.{lineOf, linesLeft}
 use Rattle.files.specs.Registers.{wordsFrom}
 use Rattle.files.proofs.LineLaws.{from-some}
 use Rattle.files.proofs.RegisterSteps.{behind, words-more}

@@ -1,18 +1,15 @@
-use mathlib.Core.Path.{_≡_, refl, sym, ap, _∙_}
-use mathlib.Core.Bool.{true, false, cond, _&&_}
+use mathlib.Core.Path.{_≡_, sym, ap, _∙_}
+use mathlib.Core.Bool.{true, false}
 use mathlib.Core.List.{List, [], _∷_}
-use lib.Chars.{codes}
 use lib.ListN.{length}
 use native.Mathlib.Omega.{arith}
 use Rattle.std.proofs.shelf.Tests.{cond-true, cond-false, and-left, ne-eqb}
 use Rattle.std.specs.Options.{isSome, mapped}
-use Rattle.std.specs.shelf.Text.{sameBytes}
 use Rattle.std.specs.declared.option.Option.{Option}
 use Rattle.std.specs.declared.option.Option.the-variants.{Some, None}
-use Rattle.bank.specs.declared.field.Entry.{Entry}
 use Rattle.files.specs.declared.cutter.Span.{Span}
 use Rattle.files.specs.Cutting.{TextSpan, first, others, spanOf, spansLeft}
-use Rattle.files.specs.Writes.{entryFrom, writeFrom}
+use Rattle.files.specs.Writes.{writeFrom}
 use Rattle.files.proofs.LineLaws.{first-some, first-none}
 use Rattle.files.proofs.writes.write_of.Needs as need
 use Rattle.files.proofs.writes.write_of.Needs.{In-Some-next-3, In-Some-next-4, then-is-some·by·then-is-some, then-is-some·by·else-is-some·then-not-is-word}

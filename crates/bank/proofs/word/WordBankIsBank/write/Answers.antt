@@ -1,4 +1,3 @@
-use borrow.Author.Needs.{needs}
 use Rattle.bank.proofs.FieldBits.{each-set}
 use Rattle.bank.proofs.word.WordBankIsBank.write.Needs as need
 
