@@ -13,8 +13,9 @@ use Rattle.std.proofs.shelf.Lists.{length-append, length-push, length-take-le, 
 use Rattle.files.specs.declared.list.Make.{Make}
 use Rattle.files.specs.declared.list.Make.the-variants.{Word, Mask}
 use Rattle.files.specs.declared.text.ShortText.{ShortText}
-use Rattle.files.specs.Printing.{holds, hexByte, hexDigits, makeText, wordText, registersText}
-use Rattle.files.proofs.LineLaws.{length-hexDigits}
+use Rattle.words.specs.Numbers.{hexByte, hexDigits}
+use Rattle.files.specs.Printing.{holds, makeText, wordText, registersText}
+use Rattle.words.proofs.LineLaws.{length-hexDigits}
 
 pub length-holds : (t : ShortText) → length (holds t) ≡ t .len
 length-holds t = length-take-le (t .len) (t .bytes) (omega arith)

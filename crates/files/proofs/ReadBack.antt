@@ -17,11 +17,11 @@ use Rattle.bank.specs.Fields.{EachFits}
 use Rattle.files.specs.declared.fault.FileFault.{FileFault}
 use Rattle.files.specs.declared.list.Make.{Make}
 use Rattle.files.specs.declared.list.Make.the-variants.{Word, Mask}
-use Rattle.files.specs.Cutting.{TextLine, spansOf, linesFrom}
-use Rattle.files.specs.Numbers.{hexWordOf}
-use Rattle.files.specs.Printing.{hexDigits, wordText, registersText}
+use Rattle.words.specs.Cutting.{TextLine, spansOf, linesFrom}
+use Rattle.words.specs.Numbers.{hexWordOf, hexDigits}
+use Rattle.files.specs.Printing.{wordText, registersText}
 use Rattle.files.specs.Registers.{makeName, makeBits, makeOf, fitting, beforeRest, wordsFrom, withWords, makeOr, afterMake, registersFrom, registersOf, Readable}
-use Rattle.files.proofs.LineLaws.{Free, line-front, free-hexDigits, word-hexDigits}
+use Rattle.words.proofs.LineLaws.{Free, line-front, free-hexDigits, word-hexDigits}
 
 line-back : (p : ℕ) (w rest : List ℕ) → Free 10 w → linesFrom (spansOf 10 p (w ++ codes "\n" ++ rest)) ≡ record { place = p; bytes = w; ended = true } ∷ linesFrom (spansOf 10 (p + length w + 1) rest)
 line-back p w rest h = ap (λ bs. linesFrom (spansOf 10 p bs)) (append-assoc w (codes "\n") rest) ∙ line-front p w rest h

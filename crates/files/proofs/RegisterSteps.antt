@@ -17,9 +17,9 @@ use Rattle.std.specs.declared.result.Result.the-variants.{Ok, Err}
 use Rattle.files.specs.declared.fault.FileFault.{FileFault}
 use Rattle.files.specs.declared.list.Make.{Make}
 use Rattle.files.specs.declared.list.Make.the-variants.{Mask}
-use Rattle.files.specs.Cutting.{TextLine, others}
+use Rattle.words.specs.Cutting.{TextLine, others}
 use Rattle.files.specs.Faults.{badRegisters}
-use Rattle.files.specs.Numbers.{hexWordOf}
+use Rattle.words.specs.Numbers.{hexWordOf}
 use Rattle.files.specs.Registers.{makeBits, fitting, wordLine, beforeRest, wordsFrom, headMake, withWords, afterMake, registersFrom}
 
 -- words in front of those that follow

@@ -24,12 +24,12 @@ use Rattle.std.proofs.shelf.Equals.{sameBytes-decides}
 use Rattle.std.proofs.shelf.Lists.{append-nil, append-assoc}
 use Rattle.std.proofs.shelf.Tests.{cases-bool, cond-true, cond-false, le-leb, eqb-true, and-parts}
 use Rattle.files.specs.declared.fault.FileFault.{FileFault}
-use Rattle.files.specs.Cutting.{TextSpan, TextLine, spansOf, grown, wordsOf, linesOf}
-use Rattle.files.specs.Numbers.{numberOf}
+use Rattle.words.specs.Cutting.{TextSpan, TextLine, spansOf, grown, wordsOf, linesOf}
+use Rattle.words.specs.Numbers.{numberOf}
 use Rattle.files.specs.Printing.{writeText}
 use Rattle.files.specs.Writes.{upTo, andThen, wordBytes, entryFrom, writeFrom, writeIn, writeOr}
-use Rattle.files.proofs.LineLaws.{Free, span-front, span-alone, line-front}
-use Rattle.files.proofs.NumberBack.{free-decimal, number-there, number-back}
+use Rattle.words.proofs.LineLaws.{Free, span-front, span-alone, line-front}
+use Rattle.words.proofs.NumberBack.{free-decimal, number-there, number-back}
 
 -- the line of four words behind `w`
 abbrev wordsText : List ℕ → List ℕ → List ℕ → List ℕ → List ℕ

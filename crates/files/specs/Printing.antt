@@ -1,9 +1,9 @@
 -- What is printed: writes, answers, faults and register lists, and what printing does to a lent buffer. Assumes nothing.
-use Prim.Native.Nat.{ℕ, zero, suc, _+_, _/_, _%_}
+use Prim.Native.Nat.{ℕ}
 use mathlib.Core.Bool.{cond}
-use mathlib.Core.List.{List, [], _∷_, _++_}
+use mathlib.Core.List.{List, _++_}
 use lib.Chars.{codes}
-use lib.Dec.{leb, ltb}
+use lib.Dec.{leb}
 use lib.ListN.{length, take, drop}
 use Rattle.bank.specs.declared.field.Entry.{Entry}
 use Rattle.std.specs.Joined.{joined}
@@ -14,18 +14,8 @@ use Rattle.files.specs.declared.fault.PrintFault.{PrintFault}
 use Rattle.files.specs.declared.fault.PrintFault.the-variants.{ShortBuffer}
 use Rattle.files.specs.declared.list.Make.{Make}
 use Rattle.files.specs.declared.text.ShortText.{ShortText}
+use Rattle.words.specs.Numbers.{hexDigits}
 use Rattle.files.specs.Registers.{makeName}
-
--- ---- hexadecimal digits
-
--- the byte of a digit below 16: 0-9, then a-f
-abbrev pub hexByte : ℕ → ℕ
-hexByte d = cond (ltb d 10) (48 + d) (87 + d)
-
--- the lowest k hexadecimal digits of n, the highest of them first
-abbrev pub hexDigits : ℕ → ℕ → List ℕ
-hexDigits zero n = []
-hexDigits (suc k) n = hexDigits k (n / 16) ++ (hexByte (n % 16) ∷ [])
 
 -- ---- lines that are printed, each with its LF
 

@@ -21,9 +21,9 @@ use Rattle.files.specs.declared.list.RegisterList.{RegisterList}
 use Rattle.files.specs.declared.list.RegisterList.the-variants.{WordList, MaskList}
 use Rattle.files.specs.declared.list.ReadFault.{ReadFault}
 use Rattle.files.specs.declared.list.ReadFault.the-variants.{File, NoMemory}
-use Rattle.files.specs.Cutting.{TextLine, linesOf, others}
+use Rattle.words.specs.Cutting.{TextLine, linesOf, others}
 use Rattle.files.specs.Faults.{badRegisters}
-use Rattle.files.specs.Numbers.{hexWordOf}
+use Rattle.words.specs.Numbers.{hexWordOf}
 
 -- a register list: the make of bank, and its words
 pub record Registers : Type 0 where

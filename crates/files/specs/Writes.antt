@@ -12,9 +12,9 @@ use Rattle.std.specs.declared.option.Option.the-variants.{Some, None}
 use Rattle.std.specs.declared.result.Result.{Result}
 use Rattle.std.specs.shelf.Text.{sameBytes}
 use Rattle.files.specs.declared.fault.FileFault.{FileFault}
-use Rattle.files.specs.Cutting.{TextSpan, TextLine, wordsOf}
+use Rattle.words.specs.Cutting.{TextSpan, TextLine, wordsOf}
 use Rattle.files.specs.Faults.{badScript}
-use Rattle.files.specs.Numbers.{numberOf}
+use Rattle.words.specs.Numbers.{numberOf}
 
 -- a number no greater than a limit
 abbrev pub upTo : ℕ → Option ℕ → Option ℕ

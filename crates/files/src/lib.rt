@@ -1,19 +1,11 @@
-// Reading and printing the text files of the clock library: lines, words, names, numbers and register lists.
-mod cutter;
-mod cutting;
+// Reading and printing the text files of the clock library: register lists, writes, answers and faults.
 mod fault;
 mod list;
-mod names;
-mod numbers;
 mod printing;
 mod registers;
 mod text;
 mod writes;
 
-pub use cutter::Cutter;
-pub use cutter::Line;
-pub use cutter::Lines;
-pub use cutter::Span;
 pub use fault::FileFault;
 pub use fault::FileFaultDebug;
 pub use fault::FileFaultKind;
@@ -30,10 +22,6 @@ pub use list::ReadFault;
 pub use list::ReadFaultDebug;
 pub use list::ReadFaultPartialEq;
 pub use list::RegisterList;
-pub use names::is_name;
-pub use names::is_word;
-pub use numbers::hex_word;
-pub use numbers::number;
 pub use printing::make_line;
 pub use printing::no_at_line;
 pub use printing::no_line;

@@ -8,20 +8,20 @@ ghost use Rattle.std.specs.Results.{Cases};
 ghost use Rattle.std.specs.Vec.{made};
 ghost use Rattle.std.specs.declared.result.Result.the-variants.{Ok, Err};
 ghost use Rattle.files.specs.declared.list.ReadFault.the-variants.{File, NoMemory};
-ghost use Rattle.files.specs.Cutting.{lineOf, linesLeft, others};
+ghost use Rattle.words.specs.Cutting.{lineOf, linesLeft, others};
 ghost use Rattle.files.specs.Faults.{badRegisters};
 ghost use Rattle.files.specs.Registers.{makeBits, makeLine, headMake, wordLine, wordsFrom, registersOf, ReadAs};
-use crate::cutter::Line;
-use crate::cutter::Lines;
 use crate::fault::FileFault;
 use crate::fault::FileFaultKind;
 use crate::list::Make;
 use crate::list::ReadFault;
 use crate::list::RegisterList;
-use crate::names::is_word;
-use crate::numbers::hex_word;
 use std::alloc::AllocError;
 use std::alloc::Global;
+use words::Line;
+use words::Lines;
+use words::hex_word;
+use words::is_word;
 
 impl Make {
     // How many bits a word has.

@@ -5,18 +5,18 @@ ghost use lib.Chars.{codes};
 ghost use Rattle.std.specs.Vec.{made};
 ghost use Rattle.files.specs.Printing.{writeText};
 ghost use Prim.Native.Nat.{_<_};
-ghost use Rattle.files.specs.Cutting.{lineOf, spansLeft};
-ghost use Rattle.files.specs.Numbers.{numberOf};
+ghost use Rattle.words.specs.Cutting.{lineOf, spansLeft};
+ghost use Rattle.words.specs.Numbers.{numberOf};
 ghost use Rattle.files.specs.Writes.{upTo, entryFrom, writeFrom, writeOr};
-use crate::cutter::Cutter;
-use crate::cutter::Line;
 use crate::fault::FileFault;
 use crate::fault::FileFaultKind;
-use crate::names::is_word;
-use crate::numbers::number;
 use bank::Entry;
 use bank::FieldValue;
 use bank::Place;
+use words::Cutter;
+use words::Line;
+use words::is_word;
+use words::number;
 
 // A number of at most 8 bits.
 fn byte(word: &[u8]) -> Option<u8>

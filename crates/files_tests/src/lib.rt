@@ -113,12 +113,12 @@ mod registers {
 
 #[cfg(test)]
 mod words {
-    use files::Lines;
-    use files::hex_word;
-    use files::is_name;
-    use files::is_word;
-    use files::number;
     use std::test::*;
+    use words::Lines;
+    use words::hex_word;
+    use words::is_name;
+    use words::is_word;
+    use words::number;
 
     #[test]
     fn numbers() -> Result<(), Fail> {
@@ -193,13 +193,13 @@ mod printing {
     use files::PrintFaultDebug;
     use files::PrintFaultPartialEq;
     use files::ShortText;
-    use files::is_word;
     use files::no_at_line;
     use files::no_line;
     use files::ok_line;
     use files::print_registers;
     use files::write_line;
     use std::test::*;
+    use words::is_word;
 
     // Prints into a buffer with room to spare, into one that has just room, and into one that is too short and stays as it was.
     fn prints(text: &ShortText, expected: &[u8]) -> Result<(), Fail> {
@@ -276,10 +276,10 @@ mod printing {
 
 #[cfg(test)]
 mod runs {
-    use files::is_word;
     use replay::transcript;
     use std::alloc::Global;
     use std::test::*;
+    use words::is_word;
 
     // What is printed for a register list and a script.
     fn prints(heap: Global, registers: &[u8], script: &[u8], expected: &[u8]) -> Result<(), Fail> {

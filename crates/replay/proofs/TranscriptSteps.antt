@@ -14,7 +14,7 @@ use Rattle.bank.specs.declared.field.Entry.{Entry}
 use Rattle.bank.specs.Banks.{wordAt}
 use Rattle.bank.specs.Entries.{entryOf, entryAfter}
 use Rattle.files.specs.declared.list.Make.{Make}
-use Rattle.files.specs.Cutting.{TextLine, others}
+use Rattle.words.specs.Cutting.{TextLine, others}
 use Rattle.files.specs.Printing.{makeText, wordText, registersText, writeText}
 use Rattle.files.specs.Writes.{writeOr}
 use Rattle.replay.specs.Transcripts.{answerText, lineRun, runFrom}

@@ -9,7 +9,7 @@ use Rattle.bank.specs.Banks.{faultNumber}
 use Rattle.bank.specs.Entries.{entryOf, entryAfter}
 use Rattle.files.specs.declared.fault.FileFault.{FileFault}
 use Rattle.files.specs.declared.list.Make.{Make}
-use Rattle.files.specs.Cutting.{TextLine, linesOf}
+use Rattle.words.specs.Cutting.{TextLine, linesOf}
 use Rattle.files.specs.Faults.{kindNumber}
 use Rattle.files.specs.Printing.{writeText, okText, noText, noAtText, registersText}
 use Rattle.files.specs.Registers.{Registers, makeBits, registersOf}

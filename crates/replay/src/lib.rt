@@ -4,7 +4,7 @@ ghost use mathlib.Core.List.{_++_};
 ghost use Rattle.std.specs.Of.Vec.{vec-items};
 ghost use Rattle.std.specs.Vec.{made};
 ghost use Rattle.bank.specs.Entries.{entryOf, entryAfter};
-ghost use Rattle.files.specs.Cutting.{linesOf};
+ghost use Rattle.words.specs.Cutting.{linesOf};
 ghost use Rattle.files.specs.Printing.{holds, registersText, writeText};
 ghost use Rattle.replay.specs.Transcripts.{answerText, faultText, runFrom, transcriptOf};
 use bank::Bank;
@@ -14,7 +14,6 @@ use bank::MaskBankIsBank;
 use bank::WordBank;
 use bank::WordBankIsBank;
 use files::FileFault;
-use files::Lines;
 use files::Make;
 use files::ReadFault;
 use files::RegisterList;
@@ -29,6 +28,7 @@ use files::word_line;
 use files::write_line;
 use std::alloc::AllocError;
 use std::alloc::Global;
+use words::Lines;
 
 fn append(out: &mut Vec<u8>, line: &ShortText) -> Result<(), AllocError>
     ensures { λ r. ⌜ made r (λ _. vec-items (now (out .exit)) ≡ vec-items (now (out .entry)) ++ holds (now (line .entry))) ⌝ }

@@ -1,7 +1,7 @@
 use mathlib.Core.Path.{_∙_}
 use Rattle.std.specs.Of.Vec.{vec-items}
-use Rattle.files.specs.Cutting.{lineOf, linesLeft}
-use Rattle.files.proofs.LineLaws.{from-some}
+use Rattle.words.specs.Cutting.{lineOf, linesLeft}
+use Rattle.words.proofs.LineLaws.{from-some}
 use Rattle.replay.proofs.TranscriptSteps.{line-played}
 use Rattle.replay.proofs.play_script.Needs as need
 

@@ -2,7 +2,7 @@ use mathlib.Core.Path.{_≡_}
 use mathlib.Core.List.{_++_}
 use lib.ListN.{length}
 use Rattle.std.specs.Of.Vec.{vec-items}
-use Rattle.files.specs.Cutting.{linesLeft}
+use Rattle.words.specs.Cutting.{linesLeft}
 use Rattle.replay.specs.Transcripts.{runFrom}
 use Rattle.replay.proofs.play_script.Given as given
 

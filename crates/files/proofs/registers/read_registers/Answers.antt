@@ -3,7 +3,7 @@ use mathlib.Core.Path.{sym, ap, _∙_}
 use mathlib.Core.List.{map}
 use native.Mathlib.Nat.{sub-zero}
 use lib.ListN.{take}
-use Rattle.files.specs.Cutting.{linesOf, others}
+use Rattle.words.specs.Cutting.{linesOf, others}
 use Rattle.files.specs.Registers.{headMake, wordsFrom}
 use Rattle.files.proofs.RegisterSteps.{mask-read}
 use Rattle.files.proofs.registers.read_registers.Needs as need

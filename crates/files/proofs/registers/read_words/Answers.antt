@@ -4,9 +4,9 @@ use mathlib.Core.List.{_++_, _∷_, []}
 use native.Mathlib.Omega.{arith}
 use lib.ListN.{take}
 use Rattle.std.proofs.shelf.Lists.{length-set, take-more-set}
-use Rattle.files.specs.Cutting.{lineOf, linesLeft}
+use Rattle.words.specs.Cutting.{lineOf, linesLeft}
 use Rattle.files.specs.Registers.{wordsFrom}
-use Rattle.files.proofs.LineLaws.{from-some}
+use Rattle.words.proofs.LineLaws.{from-some}
 use Rattle.files.proofs.RegisterSteps.{behind, words-more}
 use Rattle.files.proofs.registers.read_words.Needs as need
 

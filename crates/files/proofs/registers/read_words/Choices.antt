@@ -1,7 +1,7 @@
 use mathlib.Core.Path.{_≡_}
 use Prim.Native.Nat.{_≤_, _-_}
 use lib.ListN.{length, take}
-use Rattle.files.specs.Cutting.{linesLeft}
+use Rattle.words.specs.Cutting.{linesLeft}
 use Rattle.files.specs.Registers.{wordsFrom}
 use Rattle.files.proofs.RegisterSteps.{behind}
 use Rattle.files.proofs.registers.read_words.Given as given

@@ -1,6 +1,6 @@
 use mathlib.Core.Path.{_≡_}
 use borrow.Author.Needs.{needs}
-use Rattle.files.specs.Cutting.{lineOf}
+use Rattle.words.specs.Cutting.{lineOf}
 use Rattle.files.specs.Writes.{writeOr}
 use Rattle.files.proofs.WriteBack.{write-back}
 use Rattle.files.proofs.writes.read_write.Needs as need

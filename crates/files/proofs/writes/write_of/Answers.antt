@@ -7,10 +7,10 @@ use Rattle.std.proofs.shelf.Tests.{cond-true, cond-false, and-left, ne-eqb}
 use Rattle.std.specs.Options.{isSome, mapped}
 use Rattle.std.specs.declared.option.Option.{Option}
 use Rattle.std.specs.declared.option.Option.the-variants.{Some, None}
-use Rattle.files.specs.declared.cutter.Span.{Span}
-use Rattle.files.specs.Cutting.{TextSpan, first, others, spanOf, spansLeft}
+use Rattle.words.specs.declared.cutter.Span.{Span}
+use Rattle.words.specs.Cutting.{TextSpan, first, others, spanOf, spansLeft}
 use Rattle.files.specs.Writes.{writeFrom}
-use Rattle.files.proofs.LineLaws.{first-some, first-none}
+use Rattle.words.proofs.LineLaws.{first-some, first-none}
 use Rattle.files.proofs.writes.write_of.Needs as need
 use Rattle.files.proofs.writes.write_of.Needs.{In-Some-next-3, In-Some-next-4, then-is-some·by·then-is-some, then-is-some·by·else-is-some·then-not-is-word}
 

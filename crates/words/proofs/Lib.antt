@@ -1,0 +1,4 @@
+pub mod SpanSteps
+pub mod DigitSteps
+pub mod LineLaws
+pub mod NumberBack
