@@ -71,9 +71,6 @@ composed-by true b w x h = let z : _≡_ {A = ℕ} 0 1 = cc in absurd (omega ari
 composed-by false true w x h = let z : _≡_ {A = ℕ} 0 1 = cc in absurd (omega arith)
 composed-by false false w x h = (refl, cc)
 
-pub same-ok : (x y : ℕ) → _≡_ {A = Result ℕ BankFault} (Ok x) (Ok y) → x ≡ y
-same-ok x y h = cc
-
 -- a device word that was composed for a field of the bank writes just that field
 module _ (words : List ℕ) (at : Place) (value : FieldValue) (device : ℕ) (made : deviceWordOf at value ≡ Ok device) (inside : outside 16 (length words) at ≡ false) where
   parted : (tooWide at value ≡ false) × (device ≡ deviceWord (at .shift) (at .width) (value .0))

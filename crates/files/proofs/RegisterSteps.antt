@@ -59,17 +59,11 @@ words-done make room lines ws e = ap (λ ls. behind ws (wordsFrom make room ls))
 
 -- ---- each word that is read fits the make
 
-same-ok : (vs ws : List ℕ) → _≡_ {A = Result (List ℕ) FileFault} (Ok vs) (Ok ws) → vs ≡ ws
-same-ok vs ws h = cc
-
-same-some : (v w : ℕ) → _≡_ {A = Option ℕ} (Some v) (Some w) → v ≡ w
-same-some v w h = cc
-
 fitting-fits : (make : Make) (o : Option ℕ) (w : ℕ) → fitting make o ≡ Some w → w < 2 ^ makeBits make
 fitting-fits make None w h = let z : _≡_ {A = ℕ} 0 1 = cc in absurd (omega arith)
 fitting-fits make (Some v) w h =
     elim (cases-bool (ltb v (2 ^ makeBits make))) [
-      | inl t ↦ let e : v ≡ w = same-some v w (sym (cond-true _ _ _ t) ∙ h) in rw (sym e) (ltb-true v (2 ^ makeBits make) t)
+      | inl t ↦ let q = sym (cond-true _ (Some v) None t) ∙ h in let e : v ≡ w = cc in rw (sym e) (ltb-true v (2 ^ makeBits make) t)
       | inr f ↦ let e : _≡_ {A = Option ℕ} None (Some w) = sym (cond-false _ _ _ f) ∙ h in let z : _≡_ {A = ℕ} 0 1 = cc in absurd (omega arith)
     ]
 
@@ -87,7 +81,7 @@ ok-not-full true f r ws h = let z : _≡_ {A = ℕ} 0 1 = cc in absurd (omega ar
 ok-not-full false f r ws h = h
 
 pub words-fit : (make : Make) (room : ℕ) (lines : List TextLine) (ws : List ℕ) → wordsFrom make room lines ≡ Ok ws → All (λ w. w < 2 ^ makeBits make) ws
-words-fit make room [] ws h = let e : [] ≡ ws = same-ok [] ws h in subst (All (λ w. w < 2 ^ makeBits make)) e tt
+words-fit make room [] ws h = let e : [] ≡ ws = cc in subst (All (λ w. w < 2 ^ makeBits make)) e tt
 words-fit make room (l ∷ ls) ws h =
     let p = before-ok (wordLine make l) (badRegisters (l .place)) (wordsFrom make (room - 1) ls) ws (ok-not-full (eqb room 0) _ _ ws h) in
     subst (All (λ w. w < 2 ^ makeBits make)) (sym (p .4)) (line-fits make l (l .ended) (p .0) (p .2), words-fit make (room - 1) ls (p .1) (p .3))

@@ -19,9 +19,6 @@ use Rattle.files.specs.Printing.{makeText, wordText, registersText, writeText}
 use Rattle.files.specs.Writes.{writeOr}
 use Rattle.replay.specs.Transcripts.{answerText, lineRun, runFrom}
 
-same-some : (v w : ℕ) → _≡_ {A = Option ℕ} (Some v) (Some w) → v ≡ w
-same-some v w h = cc
-
 -- a word of the bank, there since its number is below how many there are
 word-there : (ws : List ℕ) (k : ℕ) → k < length ws → wordAt ws k ≡ Some (getD ws k 0)
 word-there ws k lt = cond-true _ _ _ (lt-ltb k (length ws) lt)
@@ -31,7 +28,7 @@ no-word ws k lt e = let p : _≡_ {A = Option ℕ} None (Some (getD ws k 0)) = e
 
 pub word-more : (front out more ws : List ℕ) (k w : ℕ) → k < length ws → Some w ≡ wordAt ws k → out ≡ front ++ joined wordText (take k ws) → more ≡ out ++ wordText w → more ≡ front ++ joined wordText (take (k + 1) ws)
 word-more front out more ws k w lt there so-far added =
-    let e : w ≡ getD ws k 0 = same-some w (getD ws k 0) (there ∙ word-there ws k lt) in
+    let e : w ≡ getD ws k 0 = cc (word-there ws k lt) in
     added ∙ (ap (λ xs. xs ++ wordText w) so-far
     ∙ (joined-more wordText front (take k ws) w
     ∙ ap (λ xs. front ++ joined wordText xs) (ap (λ x. take k ws ++ (x ∷ [])) e ∙ sym (take-more ws k 0 lt))))

@@ -6,7 +6,7 @@ use Rattle.std.proofs.shelf.Lists.{getD-read}
 use Rattle.std.proofs.shelf.Tests.{or-parts, leb-false}
 use Rattle.bank.specs.Banks.{outside}
 use Rattle.bank.specs.Masks.{taken, sent}
-use Rattle.bank.proofs.DeviceWords.{device-accepted, device-after, same-ok}
+use Rattle.bank.proofs.DeviceWords.{device-accepted, device-after}
 use Rattle.bank.proofs.mask.MaskBankIsBank.write.Needs as need
 
 pub returns : need.returns
@@ -21,5 +21,5 @@ returns c =
     record {
       answer = sym (device-accepted words at (c .args .value) (c .in-Continue-device .device) made inside);
       after = stored ∙ device-after words at (c .args .value) (c .in-Continue-device .device) made inside;
-      device = λ word _ e. stored ∙ ap (λ d. sent words (at .register) d) (same-ok _ _ (sym made ∙ e));
+      device = λ word _ e. let same : c .in-Continue-device .device ≡ word = cc (made, e) in stored ∙ ap (λ d. sent words (at .register) d) same;
     }
