@@ -1,4 +1,6 @@
 // Register banks: a list of words of which fields are read and written, whatever the device behind them.
+#![tactic(auto)]
+
 mod bank;
 mod bits;
 mod checks;

@@ -31,9 +31,9 @@ impl Bank for WordBank {
 
     ghost words = { λ b. b.words.items };
 
-    ghost size = { first_of (Prim.search rules, Prim.grind (arith, Self.row.coded.inj)) };
+    ghost size = { Prim.search rules };
 
-    ghost fits = { first_of (Prim.search rules, Prim.grind (arith, Self.row.coded.inj)) };
+    ghost fits = { Prim.search rules };
 
     fn size_in_bits() -> u32 {
         Self::WORD_BITS

@@ -162,8 +162,8 @@ left_few c =
     cond_both c.done _ _ (λ ws. length ws ≤ length c.text.now + 1) (λ _. omega arith) (λ _. omega arith)
 
 -- a line whose first word names its kind
-pub line_of : (earlier : List Clock) (l : TextLine) (w : TextSpan) (ws vs : List TextSpan) (o : Option LineKind) → ws ≡ words_of l.place l.bytes → Some w ≡ first ws → vs ≡ others ws → o ≡ line_kind w.bytes (length vs) → kind_line o earlier l.place vs ≡ line_clock earlier l
-line_of earlier l w ws vs o all one rest kind =
+pub line_by_kind : (earlier : List Clock) (l : TextLine) (w : TextSpan) (ws vs : List TextSpan) (o : Option LineKind) → ws ≡ words_of l.place l.bytes → Some w ≡ first ws → vs ≡ others ws → o ≡ line_kind w.bytes (length vs) → kind_line o earlier l.place vs ≡ line_clock earlier l
+line_by_kind earlier l w ws vs o all one rest kind =
     let e = first_some w ws one ∙ ap (λ us. w ∷ us) (sym rest) in
     ap (λ k. kind_line k earlier l.place vs) kind ∙ (sym (ap (words_line earlier l.place) e) ∙ ap (words_line earlier l.place) all)
 

@@ -1,4 +1,6 @@
 // Reading a board file: which clocks there are, one to a line.
+#![tactic(auto)]
+
 mod line;
 mod lines;
 mod reading;

@@ -1,12 +1,10 @@
 -- Worked cases of the rules, in one table. Assumes nothing.
-use Rattle.std.specs.Prelude.{◌≡◌, ℕ, ◌≤◌, List, [], ◌∷◌, Some, None, Ok, Option}
+use Rattle.std.specs.Prelude.{◌≡◌, ℕ, ◌≤◌, [], ◌∷◌, Some, None, Ok}
 use Rattle.bank.specs.declared.field.Place.{Place}
 use Rattle.bank.specs.Masks.{device_word_of}
 use Rattle.piece.specs.declared.style.DividerStyle.TheVariants.{Zero, One}
 use Rattle.part.specs.declared.row.Marks.{Marks}
 use Rattle.piece.specs.declared.style.MuxStyle.TheVariants.{Bit}
-use Rattle.part.specs.declared.row.Row.{Row}
-use Rattle.part.specs.declared.row.RowNumber.{RowNumber}
 use Rattle.part.specs.Meanings.{Meaning, row_at, row_named}
 use Rattle.piece.specs.Pieces.{Kind, divider, mux, pll, meaning_of}
 

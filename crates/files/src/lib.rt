@@ -1,4 +1,6 @@
 // Reading and printing the text files of the clock library: register lists, writes, answers and faults.
+#![tactic(auto)]
+
 mod atfault;
 mod fault;
 mod list;

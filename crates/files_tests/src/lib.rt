@@ -109,7 +109,7 @@ mod registers {
 }
 
 #[cfg(test)]
-mod words {
+mod line_words {
     use std::process::Abort;
     use words::{Lines, hex_word, is_name, is_word, number};
 

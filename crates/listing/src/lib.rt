@@ -1,4 +1,6 @@
 // Listing the clocks of a board file.
+#![tactic(auto)]
+
 ghost use Rattle.std.specs.Prelude.{◌≡◌, ◌++◌, map, IfOk, Some, decimal, OnOk};
 ghost use Rattle.std.specs.List.{flat_map};
 ghost use Rattle.piece.specs.Shown.{clock_of};

@@ -1,12 +1,11 @@
 -- The test of the duties tells just whether they are kept. Assumes nothing.
-use Rattle.std.proofs.Common.{◌≡◌, ℕ, zero, suc, ◌^◌, ◌<◌, ◌≤◌, Bool, true, false, cond, not, ◌&&◌, eqb, ltb, leb, List, [], ◌∷◌, length, is_some, Some, None, Decides, Option, sym, refl, ap, ◌∙◌, subst, arith}
+use Rattle.std.proofs.Common.{◌≡◌, ℕ, zero, suc, ◌^◌, ◌<◌, true, not, ltb, List, [], ◌∷◌, length, is_some, Some, None, Decides, Option, sym, refl, ap, ◌∙◌, arith}
 use Rattle.std.specs.List.{slice_get}
 use Rattle.std.proofs.lemmas.Bool.{and_parts, and_from, leb-true, ltb-true, eqb-true, le-leb, lt-ltb, eq-eqb, not-true, not_from_false, false≢true}
 use Rattle.bank.specs.declared.field.Place.{Place}
 use Rattle.part.specs.declared.row.Row.{Row}
-use Rattle.part.specs.declared.row.Marks.{Marks}
 use Rattle.part.specs.Meanings.{Meaning}
-use Rattle.part.specs.Duties.{Duties, RowDuty, SourceDuty, row_keeps, rows_keep, rises_above, values_rise, values_fit, no_rows, one_row_at_zero, field_keeps, bit_keeps, band_keeps, unmarked_keeps, kind_keeps, keeps_duties}
+use Rattle.part.specs.Duties.{Duties, RowDuty, SourceDuty, row_keeps, rows_keep, rises_above, values_rise, values_fit, no_rows, one_row_at_zero, field_keeps, bit_keeps, kind_keeps, keeps_duties}
 use Rattle.part.proofs.Options.{never_some, same_some}
 
 -- ---- each row

@@ -1,5 +1,5 @@
 -- What every part keeps to, whoever made it: as a list of duties, and as a test that computes. Assumes nothing.
-use Rattle.std.specs.Prelude.{◌≡◌, ℕ, ◌^◌, ◌<◌, ◌≤◌, Bool, true, false, cond, not, ◌&&◌, List, [], ◌∷◌, length, is_some, Some, None, Option, ◌==◌, nat_le, nat_lt}
+use Rattle.std.specs.Prelude.{◌≡◌, ℕ, ◌^◌, ◌<◌, ◌≤◌, Bool, true, false, not, ◌&&◌, List, [], ◌∷◌, length, is_some, Some, None, Option, ◌==◌, nat_le, nat_lt}
 use Rattle.std.specs.List.{slice_get}
 use Rattle.bank.specs.declared.field.Place.{Place}
 use Rattle.part.specs.declared.row.Row.{Row}

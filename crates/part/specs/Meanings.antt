@@ -1,5 +1,5 @@
 -- What a part means, and which row a number or a field value names. Assumes nothing.
-use Rattle.std.specs.Prelude.{ℕ, ◌+◌, Bool, cond, List, [], ◌∷◌, Some, None, Option, ◌==◌}
+use Rattle.std.specs.Prelude.{ℕ, ◌+◌, cond, List, [], ◌∷◌, Some, None, Option, ◌==◌}
 use Rattle.std.specs.List.{slice_get}
 use Rattle.bank.specs.declared.field.Place.{Place}
 use Rattle.part.specs.declared.row.Row.{Row}

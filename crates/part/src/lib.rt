@@ -1,4 +1,6 @@
 // What a clock can be: every part is known by its meaning, and keeps the same duties.
+#![tactic(auto)]
+
 mod checks;
 mod fault;
 mod part;

@@ -1,11 +1,11 @@
 -- The rows of a divider. Assumes nothing.
-use Rattle.std.specs.Prelude.{◌≡◌, ℕ, ◌+◌, ◌-◌, ◌^◌, ◌<◌, ◌≤◌, Some, refl}
+use Rattle.std.specs.Prelude.{◌≡◌, ℕ, ◌+◌, ◌-◌, ◌^◌, ◌≤◌, Some}
 use Rattle.std.proofs.Common.{sym, ap, ◌∙◌, arith, pow_mono, ⊎_elim}
 use Rattle.std.proofs.lemmas.Bool.{cond-true, cond-false, eq-eqb, ne_eqb, cases_eq}
 use Rattle.piece.specs.declared.style.DividerStyle.{DividerStyle}
 use Rattle.piece.specs.declared.style.DividerStyle.TheVariants.{Zero, One}
 use Rattle.piece.specs.Pieces.{Reading, divider_reads}
-use Rattle.piece.specs.RowNumbers.{first_value, divider_count, divider_row}
+use Rattle.piece.specs.RowNumbers.{divider_count, divider_row}
 use Rattle.part.proofs.Options.{never_some}
 use Rattle.piece.specs.RowLists.{Counts}
 

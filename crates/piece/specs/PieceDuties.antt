@@ -1,11 +1,10 @@
 -- Every board piece keeps the duties of a part. Assumes nothing.
-use Rattle.std.specs.Prelude.{◌≡◌, ℕ, ◌+◌, ◌-◌, ◌^◌, ◌<◌, ◌≤◌, List, [], ◌∷◌, length, get_or, take, Some, None, Option, refl}
+use Rattle.std.specs.Prelude.{◌≡◌, ℕ, ◌^◌, ◌<◌, ◌≤◌, List, [], ◌∷◌, length, Some, None, Option, refl}
 use Rattle.std.proofs.Common.{sym, ap, subst, ◌∙◌, arith, pow_mono}
 use Rattle.std.specs.List.{slice_get}
 use Rattle.std.proofs.lemmas.List.{get_or-take}
 use Rattle.bank.specs.declared.field.Place.{Place}
 use Rattle.part.specs.declared.row.Row.{Row}
-use Rattle.piece.specs.declared.shapes.Piece.{Piece}
 use Rattle.piece.specs.declared.shapes.PieceKind.{PieceKind}
 use Rattle.piece.specs.declared.shapes.PieceKind.TheVariants.{Src, Gate, Fix, Div, Mux, Pll}
 use Rattle.piece.specs.declared.shapes.SrcPiece.{SrcPiece}
@@ -16,12 +15,11 @@ use Rattle.piece.specs.declared.shapes.MuxPiece.{MuxPiece}
 use Rattle.piece.specs.declared.shapes.PllPiece.{PllPiece}
 use Rattle.part.specs.Meanings.{Meaning}
 use Rattle.part.specs.Duties.{Duties, RowDuty}
-use Rattle.piece.specs.Pieces.{Reading, rows_from, values_of, meaning_of, mux_reads, divider_reads, pll_reads}
-use Rattle.piece.specs.RowNumbers.{divider_row, divider_count, mux_row, pll_n, pll_d, pll_count, pll_row}
-use Rattle.piece.specs.Shown.{kind_of, number_of, div_kind, mux_kind, pll_kind}
+use Rattle.piece.specs.Pieces.{Reading, rows_from, values_of, meaning_of}
+use Rattle.piece.specs.Shown.{kind_of, number_of}
 use Rattle.piece.specs.RowLists.{Counts, value_in, row_at, length_rows}
 use Rattle.piece.specs.DividerRows.{divider_counts, divider_count_range}
-use Rattle.piece.specs.MuxRows.{own, length_own, mux_own_counts}
+use Rattle.piece.specs.MuxRows.{length_own, mux_own_counts}
 use Rattle.piece.specs.PllRows.{d_lt, n_lt, pll_counts, pll_count_range}
 use Rattle.part.proofs.Options.{never_some, never_none, same_some}
 

@@ -1,6 +1,6 @@
 -- The six kinds of board piece: how a field value reads, which rows that gives, and what the piece means.
 -- Assumes nothing.
-use Rattle.std.specs.Prelude.{ℕ, zero, suc, ◌+◌, ◌/◌, ◌%◌, ◌^◌, Bool, true, false, cond, ◌||◌, List, [], ◌∷◌, Some, None, codes, Option, ◌==◌, nat_lt}
+use Rattle.std.specs.Prelude.{ℕ, zero, suc, ◌+◌, ◌/◌, ◌%◌, ◌^◌, false, cond, ◌||◌, List, [], ◌∷◌, Some, None, codes, Option, ◌==◌, nat_lt}
 use Rattle.bank.specs.declared.field.Place.{Place}
 use Rattle.part.specs.declared.row.Row.{Row}
 use Rattle.part.specs.declared.row.Band.{Band}

@@ -1,5 +1,5 @@
 -- The rows of a PLL. Assumes nothing.
-use Rattle.std.specs.Prelude.{◌≡◌, ℕ, ◌+◌, ◌-◌, ◌*◌, ◌/◌, ◌%◌, ◌^◌, ◌<◌, ◌≤◌, Bool, false, cond, ◌||◌, eqb, Some, None, Option, refl}
+use Rattle.std.specs.Prelude.{◌≡◌, ℕ, ◌+◌, ◌-◌, ◌*◌, ◌/◌, ◌%◌, ◌^◌, ◌<◌, ◌≤◌, Some, Option}
 use Rattle.std.proofs.Common.{sym, ap, ◌∙◌, ⊎_elim, arith, mul_comm, add-mul, pow_mono}
 use Rattle.std.proofs.lemmas.Nat.{pow_pos, pow-add, mul-le, mul-add-lt, mod_below, div_below, le-div, div-mul-add, mod-mul-add, div-add-mod', shr_split, shr_below}
 use Rattle.std.proofs.lemmas.Bool.{cases_lt, cases_eq, cond-true, cond-false, or_from, or_left, or_right, eq-eqb, ne_eqb}

@@ -4,9 +4,6 @@ use Rattle.words.specs.Spelling.{spelled}
 use Rattle.piece.specs.declared.shapes.Piece.{Piece}
 use Rattle.piece.specs.declared.shapes.PieceKind.{PieceKind}
 use Rattle.piece.specs.declared.shapes.PieceKind.TheVariants.{Src, Gate, Fix, Div, Mux, Pll}
-use Rattle.piece.specs.declared.shapes.SrcPiece.{SrcPiece}
-use Rattle.piece.specs.declared.shapes.GatePiece.{GatePiece}
-use Rattle.piece.specs.declared.shapes.FixPiece.{FixPiece}
 use Rattle.piece.specs.declared.shapes.DivPiece.{DivPiece}
 use Rattle.piece.specs.declared.shapes.MuxPiece.{MuxPiece}
 use Rattle.piece.specs.declared.shapes.PllPiece.{PllPiece}

@@ -1,4 +1,6 @@
 // The six kinds of piece that a board file describes, and that each is a part.
+#![tactic(auto)]
+
 mod dividers;
 mod muxes;
 mod piece;

@@ -4,7 +4,7 @@ ghost use Rattle.std.specs.List.{slice_get};
 ghost use Rattle.piece.specs.Pieces.{source, kind_word, row_read, rows_from, marks_of, meaning_of};
 ghost use Rattle.piece.specs.Shown.{kind_of, clock_of};
 ghost use Rattle.words.specs.Spelling.{spelled};
-ghost use Rattle.piece.specs.PieceDuties.{kind-duties};
+ghost use Rattle.piece.specs.PieceDuties.{kind_duties};
 
 use crate::shapes::{Piece, PieceKind, SrcPiece};
 use bank::{FieldValue, Place};
@@ -88,7 +88,7 @@ impl Piece {
 impl Part for Piece {
     ghost meaning = { λ p. meaning_of (clock_of p) };
 
-    ghost duties = { λ p. kind-duties (spelled p.name) p.kind };
+    ghost duties = { λ p. kind_duties (spelled p.name) p.kind };
 
     fn number(&self) -> u8 {
         match &self.kind {

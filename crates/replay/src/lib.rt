@@ -1,4 +1,6 @@
 // Playing a script of writes on the bank that a register list describes.
+#![tactic(auto)]
+
 ghost use Rattle.std.specs.Prelude.{◌≡◌, ◌++◌, IfOk, OnOk};
 ghost use Rattle.bank.specs.Entries.{entry_of, entry_after};
 ghost use Rattle.words.specs.Cutting.{lines_of};

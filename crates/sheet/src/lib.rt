@@ -1,4 +1,6 @@
 // Parts that are taken from a maker's sheet.
+#![tactic(auto)]
+
 mod duties;
 mod sheet;
 mod sheets;

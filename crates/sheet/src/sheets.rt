@@ -4,7 +4,7 @@ ghost use Rattle.part.specs.declared.fault.PartFault.TheVariants.{BrokenDuty};
 ghost use Rattle.part.specs.Duties.{Duties};
 ghost use Rattle.sheet.specs.Sheets.{takes, part_of};
 ghost use Rattle.sheet.specs.SheetsShown.{sheet_says, part_says, answered};
-ghost use Rattle.part.proofs.DutyTest.{duties-kept};
+ghost use Rattle.part.proofs.DutyTest.{duties_kept};
 
 use crate::duties::keeps_duties;
 use crate::sheet::{Sheet, SheetPart};
@@ -67,7 +67,7 @@ impl SheetPart {
 impl Part for SheetPart {
     ghost meaning = { part_says };
 
-    ghost duties = { λ p. duties-kept (part_says p) p.keeps };
+    ghost duties = { λ p. duties_kept (part_says p) p.keeps };
 
     fn number(&self) -> u8 {
         self.number

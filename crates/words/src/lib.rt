@@ -1,4 +1,6 @@
 // What the text files are made of: lines, words, names and numbers.
+#![tactic(auto)]
+
 mod cutter;
 mod cutting;
 mod name;

@@ -1,4 +1,4 @@
-use Rattle.std.proofs.Common.{◌≡◌, ◌+◌, List, [], ◌∷◌, ◌++◌, map, get_or, take, vec_items, sym, ap, ◌∙◌}
+use Rattle.std.proofs.Common.{List, [], ◌∷◌, ◌++◌, map, take, vec_items, sym, ap, ◌∙◌}
 use Rattle.std.specs.List.{flat_map}
 use Rattle.std.proofs.lemmas.List.{flat_map_more, map_more, take_all}
 use Rattle.piece.specs.declared.shapes.Piece.{Piece}
@@ -13,7 +13,7 @@ loop-piece-preserved c =
     let i = c.loop-piece.piece-index in
     let start = vec_items c.args.out.now in
     let x = c.piece-item.result in
-    c.in-ok-append-clock.ensures
+    c.in_ok-append_clock.ensures
     ∙ (ap (λ zs. zs ++ clock_text (clock_of x)) c.loop-piece.invariant
     ∙ (flat_map_more clock_text start (map clock_of (take i pieces)) (clock_of x)
     ∙ ap (λ (ks : List Clock). start ++ flat_map clock_text ks)

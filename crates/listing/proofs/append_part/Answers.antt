@@ -6,5 +6,5 @@ use Rattle.listing.proofs.append_part.Goals as goal
 pub returns : goal.returns
 returns g c =
     let m = g.P.Part.meaning c.args.part.now in
-    behind (vec_items c.args.out.now) (vec_items c.append-places.new.out) (vec_items c.append-limits.new.out) (places_text m) (limits_text m)
-    c.in-ok-append-places.ensures c.in-ok-append-limits.ensures
+    behind (vec_items c.args.out.now) (vec_items c.append_places.new.out) (vec_items c.append_limits.new.out) (places_text m) (limits_text m)
+    c.in_ok-append_places.ensures c.in_ok-append_limits.ensures

@@ -7,9 +7,9 @@ pub returns : goal.returns
 returns c =
     let p = c.in-Some.place in
     let start = vec_items c.args.out.now in
-    let front = three start (vec_items c.append-number.new.out) (vec_items c.append-2.new.out) (vec_items c.append-number-2.new.out)
+    let front = three start (vec_items c.append_number.new.out) (vec_items c.append-2.new.out) (vec_items c.append_number-2.new.out)
     (decimal p.register) (codes " ") (decimal p.shift)
-    c.in-ok-append-number.ensures c.in-ok-append.ensures c.in-ok-append-number-2.ensures in
-    three start (vec_items c.append-number-2.new.out) (vec_items c.append-3.new.out) (vec_items c.append-number-3.new.out)
-    (decimal p.register ++ codes " " ++ decimal p.shift) (codes " ") (decimal p.width) front c.in-ok-append-2.ensures c.in-ok-append-number-3.ensures
+    c.in_ok-append_number.ensures c.in_ok-append.ensures c.in_ok-append_number-2.ensures in
+    three start (vec_items c.append_number-2.new.out) (vec_items c.append-3.new.out) (vec_items c.append_number-3.new.out)
+    (decimal p.register ++ codes " " ++ decimal p.shift) (codes " ") (decimal p.width) front c.in_ok-append-2.ensures c.in_ok-append_number-3.ensures
     ∙ ap (λ o. start ++ place_text o) (sym c.in-Some.is)

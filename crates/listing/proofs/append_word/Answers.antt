@@ -6,4 +6,4 @@ pub returns : goal.returns
 returns c =
     three (vec_items c.args.out.now) (vec_items c.append.new.out) (vec_items c.append-2.new.out) (vec_items c.append-3.new.out)
     (codes "word ") c.args.word.now (codes "\n")
-    c.in-ok-append.ensures c.in-ok-append-2.ensures c.in-ok-append-3.ensures
+    c.in_ok-append.ensures c.in_ok-append-2.ensures c.in_ok-append-3.ensures

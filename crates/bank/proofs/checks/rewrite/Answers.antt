@@ -6,8 +6,8 @@ pub returns : goal.returns
 returns g c =
     let b = g.B.Bank in
     let words = b.words c.args.bank.now in
-    let read = sym c.read.ensures ∙ c.in-ok-value.was in
+    let read = sym c.read.ensures ∙ c.in_ok-value.was in
     record {
       answer = sym read;
-      after = c.write.ensures.after ∙ same_changes_nothing b.bits words c.args.field c.in-ok-value.value read;
+      after = c.write.ensures.after ∙ same_changes_nothing b.bits words c.args.field c.in_ok-value.value read;
     }

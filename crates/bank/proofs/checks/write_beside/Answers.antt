@@ -8,7 +8,7 @@ pub returns : goal.returns
 returns g c =
     let b = g.B.Bank in
     let words = b.words c.args.bank.now in
-    let ok = sym c.write.ensures.answer ∙ c.in-ok-write.was in
+    let ok = sym c.write.ensures.answer ∙ c.in_ok-write.was in
     let left = others_are_left b.bits words c.args.at c.args.value (accepted b.bits words c.args.at c.args.value _ ok) c.args.beside in
     let read = c.read.ensures ∙ ap (λ ws. read_of b.bits ws c.args.beside) c.write.ensures.after in
     record {

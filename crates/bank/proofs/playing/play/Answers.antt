@@ -8,7 +8,7 @@ use Rattle.bank.proofs.playing.play.Goals as goal
 pub loop-e-preserved : goal.loop-e-preserved
 loop-e-preserved g c =
     let b = g.B.Bank in
-    let ok = sym c.write.ensures.answer ∙ c.in-ok-write.was in
+    let ok = sym c.write.ensures.answer ∙ c.in_ok-write.was in
     let es = c.args.entries.now in
     let i = c.loop-e.e-index in
     let a = answer_more b.bits (b.words c.loop-e.bank) es i _ c.loop-e-test.true _ ok in
@@ -17,13 +17,13 @@ loop-e-preserved g c =
       rw c.write.ensures.after (sym f ∙ c.loop-e.invariant.1),
     )
 
-pub returns-in-err-write : goal.returns-in-err-write
-returns-in-err-write g c =
+pub returns-in_err-write : goal.returns-in_err-write
+returns-in_err-write g c =
     let b = g.B.Bank in
-    let err = sym c.write.ensures.answer ∙ c.in-err-write.was in
+    let err = sym c.write.ensures.answer ∙ c.in_err-write.was in
     let es = c.args.entries.now in
     let i = c.loop-e.e-index in
-    let p = err_from_is_err_and c.from-residual.result c.from-residual.ensures.1 in
+    let p = err_from_is_err_and c.from_residual.result c.from_residual.ensures.1 in
     let a = answer_stop b.bits (b.words c.loop-e.bank) es i _ c.loop-e-test.true _ err in
     let f = after_stop b.bits (b.words c.loop-e.bank) es i _ c.loop-e-test.true _ err in
     record {

@@ -4,7 +4,7 @@ use Rattle.words.proofs.LineLaws.{from_some}
 use Rattle.board.proofs.BoardSteps.{left_few}
 use Rattle.board.proofs.lines.count_words.Goals as goal
 
-pub overflow-add-n : goal.overflow-add-n
-overflow-add-n c =
+pub overflow_add-n : goal.overflow_add-n
+overflow_add-n c =
     let more = ap length (from_some span_of c.next.result c.in-Some.field-0 (spans_left c.loop-n.left) c.in-Some.is c.next.ensures.span) in
     omega (arith, left_few c.args.words.now)

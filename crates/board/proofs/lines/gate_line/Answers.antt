@@ -5,8 +5,8 @@ use Rattle.board.proofs.lines.gate_line.Goals as goal
 pub returns : goal.returns
 returns c =
     gate_good c.args.earlier.now c.args.line (spans_left c.args.words.now)
-    c.in-ok-name.ensures.answer c.in-ok-name.ensures.after
-    c.in-ok-parent.ensures.answer c.in-ok-parent.ensures.after
-    c.in-ok-register.ensures.answer c.in-ok-register.ensures.after
-    c.in-ok-bit.ensures.answer c.in-ok-bit.ensures.after
-    c.in-ok-marks.ensures.answer
+    c.in_ok-name.ensures.answer c.in_ok-name.ensures.after
+    c.in_ok-parent.ensures.answer c.in_ok-parent.ensures.after
+    c.in_ok-register.ensures.answer c.in_ok-register.ensures.after
+    c.in_ok-bit.ensures.answer c.in_ok-bit.ensures.after
+    c.in_ok-marks.ensures.answer

@@ -5,7 +5,7 @@ use Rattle.board.specs.declared.line.LineKind.TheVariants.{Pll}
 use Rattle.board.specs.Boards.{line_kind}
 use Rattle.board.proofs.BoardSteps.{last_kind}
 use Rattle.board.proofs.lines.line_kind.Goals as goal
-use Rattle.board.proofs.lines.line_kind.Goals.{Joined-else-is-word-5}
+use Rattle.board.proofs.lines.line_kind.Goals.{Joined-else-is_word-5}
 
 -- the word is another, or so many words are not left
 other : (r s : Bool) (n k : ℕ) → r ≡ s → (r ≡ true × (n ≡ k → ⊥)) ⊎ (r ≡ false) → (s && eqb n k) ≡ false
@@ -18,20 +18,20 @@ outside r s n e (inr (inl h)) = and_right s _ (and_left (leb 7 n) _ (lt-leb 7 n 
 outside r s n e (inr (inr h)) = let f : s ≡ false = cc in and_left s _ f
 
 -- past the first five
-past : (c : goal.Joined-else-is-word-5) → line_kind c.args.word.now c.args.count ≡ cond (bytes_eq c.args.word.now (codes "pll") && eqb c.args.count 9) (Some Pll) None
+past : (c : goal.Joined-else-is_word-5) → line_kind c.args.word.now c.args.count ≡ cond (bytes_eq c.args.word.now (codes "pll") && eqb c.args.count 9) (Some Pll) None
 past c =
     let n = c.args.count in
     last_kind c.args.word.now n
-    (other _ _ n 2 c.is-word.ensures c.else-is-word.either)
-    (other _ _ n 5 c.is-word-else-is-word.ensures c.else-is-word-2.either)
-    (other _ _ n 5 c.is-word-else-is-word-2.ensures c.else-is-word-3.either)
-    (other _ _ n 7 c.is-word-else-is-word-3.ensures c.else-is-word-4.either)
-    (outside _ _ n c.is-word-else-is-word-4.ensures c.else-is-word-5.either)
+    (other _ _ n 2 c.is_word.ensures c.else-is_word.either)
+    (other _ _ n 5 c.is_word-else-is_word.ensures c.else-is_word-2.either)
+    (other _ _ n 5 c.is_word-else-is_word-2.ensures c.else-is_word-3.either)
+    (other _ _ n 7 c.is_word-else-is_word-3.ensures c.else-is_word-4.either)
+    (outside _ _ n c.is_word-else-is_word-4.ensures c.else-is_word-5.either)
 
 pub returns-then-count-eq9 : goal.returns-then-count-eq9
 returns-then-count-eq9 c =
-    sym (past (goal.at.returns-then-count-eq9 c).Joined-else-is-word-5 ∙ cond-true _ _ _ (and_from _ _ (sym c.if-is-word-6.ensures) (eq-eqb _ 9 c.if-count-eq9.true)))
+    sym (past (goal.at.returns-then-count-eq9 c).Joined-else-is_word-5 ∙ cond-true _ _ _ (and_from _ _ (sym c.if-is_word-6.ensures) (eq-eqb _ 9 c.if-count-eq9.true)))
 
-pub returns-else-is-word-6 : goal.returns-else-is-word-6
-returns-else-is-word-6 c =
-    sym (past (goal.at.returns-else-is-word-6 c).Joined-else-is-word-5 ∙ cond-false _ _ _ (other _ _ c.args.count 9 c.is-word-else-is-word-5.ensures c.else-is-word-6.either))
+pub returns-else-is_word-6 : goal.returns-else-is_word-6
+returns-else-is_word-6 c =
+    sym (past (goal.at.returns-else-is_word-6 c).Joined-else-is_word-5 ∙ cond-false _ _ _ (other _ _ c.args.count 9 c.is_word-else-is_word-5.ensures c.else-is_word-6.either))

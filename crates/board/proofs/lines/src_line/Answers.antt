@@ -5,5 +5,5 @@ use Rattle.board.proofs.lines.src_line.Goals as goal
 pub returns : goal.returns
 returns c =
     src_good c.args.earlier.now c.args.line (spans_left c.args.words.now)
-    c.in-ok-name.ensures.answer c.in-ok-name.ensures.after
-    c.in-ok-rate.ensures.answer
+    c.in_ok-name.ensures.answer c.in_ok-name.ensures.after
+    c.in_ok-rate.ensures.answer

@@ -1,4 +1,4 @@
-use Rattle.std.proofs.Common.{◌≡◌, ◌+◌, ◌<◌, ◌≤◌, [], ◌∷◌, ◌++◌, map, length, take, Ok, Err, sym, ap, ◌∙◌, arith}
+use Rattle.std.proofs.Common.{◌≡◌, ◌<◌, ◌≤◌, [], ◌∷◌, ◌++◌, map, length, take, Ok, Err, sym, ap, ◌∙◌, arith}
 use native.Mathlib.Nat.{sub-zero}
 use Rattle.std.proofs.lemmas.List.{length-set}
 use Rattle.std.proofs.lemmas.Result.{err_from_is_err_and, IfOk-from_err}
@@ -17,25 +17,25 @@ some_left c = from_some line_of c.next.result c.in-Some.line (lines_left c.loop-
 room-left : (c : goal.In-Some) → c.loop-line.n < 64
 room-left c = let one = ap length (some_left c) in omega arith
 
-pub returns-in-err-piece : goal.returns-in-err-piece
-returns-in-err-piece c =
-    let before = (goal.at.returns-in-err-piece c).In-Some in
+pub returns-in_err-piece : goal.returns-in_err-piece
+returns-in_err-piece c =
+    let before = (goal.at.returns-in_err-piece c).In-Some in
     let room = room-left before in
     let list = c.loop-line.list in
     let n = c.loop-line.n in
-    let p = err_from_is_err_and c.from-residual.result c.from-residual.ensures.1 in
-    let bad = c.in-err-piece.ensures ∙ ap (λ k. line_clock (map clock_of (take k list)) (line_of c.in-Some.line)) (sub-zero n) in
+    let p = err_from_is_err_and c.from_residual.result c.from_residual.ensures.1 in
+    let bad = c.in_err-piece.ensures ∙ ap (λ k. line_clock (map clock_of (take k list)) (line_of c.in-Some.line)) (sub-zero n) in
     let b = board_from [] (lines_of c.args.text.now) in
-    let is = sym c.loop-line.invariant.3 ∙ board_stop (map clock_of (take n list)) (line_of c.in-Some.line) (lines_left c.loop-line.lines) (some_left before) c.in-err-piece.field-0.0 bad in
+    let is = sym c.loop-line.invariant.3 ∙ board_stop (map clock_of (take n list)) (line_of c.in-Some.line) (lines_left c.loop-line.lines) (some_left before) c.in_err-piece.field-0.0 bad in
     record {
       answer = p.1 ∙ (ap Err p.2 ∙ sym (ap answer_of is));
       after = list_after_lem list c.args.list.now n (omega arith) b c.loop-line.invariant.2 (ap (λ (x : Board). x.clocks) is);
       untouched = places_behind list c.args.list.now n (omega arith) b c.loop-line.invariant.2 (ap (λ (x : Board). x.clocks) is);
-      within = IfOk-from_err c.from-residual.result (λ n. (1 ≤ n) × (n ≤ 64)) c.from-residual.ensures.0;
+      within = IfOk-from_err c.from_residual.result (λ n. (1 ≤ n) × (n ≤ 64)) c.from_residual.ensures.0;
     }
 
-pub offset-bounds-list-n : goal.offset-bounds-list-n
-offset-bounds-list-n c = let h = room-left (goal.at.offset-bounds-list-n c).In-Some in omega arith
+pub offset_bounds-list-n : goal.offset_bounds-list-n
+offset_bounds-list-n c = let h = room-left (goal.at.offset_bounds-list-n c).In-Some in omega arith
 
 pub listed : goal.listed
 listed c = let h = room-left (goal.at.listed c).In-Some in omega arith
@@ -43,8 +43,8 @@ listed c = let h = room-left (goal.at.listed c).In-Some in omega arith
 pub bounds-list-n : goal.bounds-list-n
 bounds-list-n c = room-left (goal.at.bounds-list-n c).In-Some
 
-pub overflow-add-n : goal.overflow-add-n
-overflow-add-n c = let h = room-left (goal.at.overflow-add-n c).In-Some in omega arith
+pub overflow_add-n : goal.overflow_add-n
+overflow_add-n c = let h = room-left (goal.at.overflow_add-n c).In-Some in omega arith
 
 pub loop-line-smaller : goal.loop-line-smaller
 loop-line-smaller c =
@@ -59,8 +59,8 @@ loop-line-preserved c =
     let rest = ap length c.next.ensures.after in
     let list = c.loop-line.list in
     let n = c.loop-line.n in
-    let piece = c.in-ok-piece.piece in
-    let good = c.in-ok-piece.ensures ∙ ap (λ k. line_clock (map clock_of (take k list)) (line_of c.in-Some.line)) (sub-zero n) in (
+    let piece = c.in_ok-piece.piece in
+    let good = c.in_ok-piece.ensures ∙ ap (λ k. line_clock (map clock_of (take k list)) (line_of c.in-Some.line)) (sub-zero n) in (
       omega arith,
       length-set _ _ _ ∙ c.loop-line.invariant.1,
       drop_stored list c.args.list.now n (omega arith) piece c.loop-line.invariant.2,
@@ -72,7 +72,7 @@ loop-line-preserved c =
 
 pub returns : goal.returns
 returns c =
-    let none = from_none line_of c.next.result (lines_left c.loop-line.lines) c.in-default.is c.next.ensures.line in
+    let none = from_none line_of c.next.result (lines_left c.loop-line.lines) c.in_default.is c.next.ensures.line in
     let zero = ap length none in
     let list = c.loop-line.list in
     let n = c.loop-line.n in

@@ -9,7 +9,7 @@ loop-word-preserved c =
     let xs = c.args.words.now in
     let i = c.loop-word.word-index in
     let e = map_more (λ w. w % 2 ^ 16) xs i 0 c.loop-word-test.true in
-    let p = pushed _ c.loop-word.invariant c.in-ok-push.was c.push.ensures.items in
+    let p = pushed _ c.loop-word.invariant c.in_ok-push.was c.push.ensures.items in
     p ∙ (ap (λ x. map (λ w. w % 2 ^ 16) (take i xs) ++ (x ∷ [])) (and_mask (get_or xs i 0) 16) ∙ sym e)
 
 pub returns : goal.returns

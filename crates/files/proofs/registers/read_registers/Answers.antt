@@ -5,14 +5,14 @@ use Rattle.files.specs.Registers.{head_make, words_from}
 use Rattle.files.proofs.RegisterSteps.{mask_read}
 use Rattle.files.proofs.registers.read_registers.Goals as goal
 
-pub returns-in-ok-lower-halves : goal.returns-in-ok-lower-halves
-returns-in-ok-lower-halves c =
-    let make = c.in-ok-make.make in
+pub returns-in_ok-lower_halves-in-Mask : goal.returns-in_ok-lower_halves-in-Mask
+returns-in_ok-lower_halves-in-Mask c =
+    let make = c.in_ok-make.make in
     let lines = lines_of c.args.text.now in
     let start = c.of-lines.ensures in
-    let rest = c.first-make.ensures.after ∙ ap others start in
-    let table = c.read-words.new.words in
-    let head = sym (ap head_make start) ∙ sym c.in-ok-make.ensures.answer in
-    let words = sym (ap (words_from make 64) rest) ∙ c.in-ok-count.ensures.1 in
-    let halves = c.in-ok-lower-halves.ensures ∙ ap (λ n. map (λ w. w % 2 ^ 16) (take n table)) (sub-zero c.in-ok-count.count) in
-    mask_read lines make (take c.in-ok-count.count table) _ head c.in-Mask.is words halves
+    let rest = c.first_make.ensures.after ∙ ap others start in
+    let table = c.read_words.new.words in
+    let head = sym (ap head_make start) ∙ sym c.in_ok-make.ensures.answer in
+    let words = sym (ap (words_from make 64) rest) ∙ c.in_ok-count.ensures.1 in
+    let halves = c.in_ok-lower_halves-in-Mask.ensures ∙ ap (λ n. map (λ w. w % 2 ^ 16) (take n table)) (sub-zero c.in_ok-count.count) in
+    mask_read lines make (take c.in_ok-count.count table) _ head c.in-Mask.is words halves

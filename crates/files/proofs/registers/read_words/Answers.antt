@@ -11,7 +11,7 @@ loop-line-preserved c =
     let n = c.loop-line.n in
     let table = c.loop-line.words in
     let make = c.args.make in
-    let w = c.in-Some-line-word.word in
+    let w = c.in-Some-line_word.word in
     let left = lines_left c.loop-line.lines in
     let more = from_some line_of c.next.result c.in-Some.line left c.in-Some.is c.next.ensures.line in
     let room : 64 - (c.loop-line.n + 1) ≡ 64 - c.loop-line.n - 1 = omega arith in (
@@ -20,6 +20,6 @@ loop-line-preserved c =
       ap (λ ws. behind ws (words_from make (64 - (n + 1)) (lines_left c.next.new.self))) (take_more_set table n w (omega arith))
           ∙ (ap (λ r. behind (take n table ++ (w ∷ [])) (words_from make r (lines_left c.next.new.self))) room
           ∙ (ap (λ ls. behind (take n table ++ (w ∷ [])) (words_from make (64 - n - 1) ls)) c.next.ensures.after
-          ∙ (words_more make (64 - n) (line_of c.in-Some.line) left more (λ e. omega arith) (take n table) w (sym c.line-word.ensures ∙ c.in-Some-line-word.is)
+          ∙ (words_more make (64 - n) (line_of c.in-Some.line) left more (λ e. omega arith) (take n table) w (sym c.line_word.ensures ∙ c.in-Some-line_word.is)
           ∙ c.loop-line.invariant.2))),
     )

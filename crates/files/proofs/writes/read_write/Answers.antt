@@ -6,5 +6,5 @@ use Rattle.files.proofs.writes.read_write.Goals as goal
 
 pub returns : goal.returns
 returns c =
-    let is : c.ok-or.result ≡ write_or (line_of c.args.line.now) = search rules in
-    record { answer = is; prints-back = write_back (line_of c.args.line.now) c.ok-or.result is }
+    let is : c.ok_or.result ≡ write_or (line_of c.args.line.now) = search rules in
+    record { answer = is; prints_back = write_back (line_of c.args.line.now) c.ok_or.result is }

@@ -6,7 +6,7 @@ use Rattle.words.specs.Cutting.{TextSpan, first, others, span_of, spans_left}
 use Rattle.files.specs.Writes.{write_from}
 use Rattle.words.proofs.LineLaws.{first_some, first_none}
 use Rattle.files.proofs.writes.write_of.Goals as goal
-use Rattle.files.proofs.writes.write_of.Goals.{In-Some-next-3, In-Some-next-4, then-is-some-via-then-is-some, then-is-some-via-else-is-some+then-not-is-word}
+use Rattle.files.proofs.writes.write_of.Goals.{In-Some-next-3, In-Some-next-4, then-is_some-via-then-is_some, then-is_some-via-else-is_some+then-not-is_word}
 
 -- the first word and the others
 one_more : (ls ks : List TextSpan) (x : TextSpan) → Some x ≡ first ls → ks ≡ others ls → ls ≡ x ∷ ks
@@ -42,25 +42,25 @@ none_left : (ls : List TextSpan) (o : Option Span) → option_map span_of o ≡ 
 none_left ls None e h = first_none ls e
 none_left ls (Some x) e h = let z : true ≡ false = h in cc
 
-pub returns-in-default-next-4 : goal.returns-in-default-next-4
-returns-in-default-next-4 c =
-    let none = first_none _ c.in-default-next-4.ensures.span in
-    sym (ap write_from (four (goal.at.returns-in-default-next-4 c).In-Some-next-3) ∙ ap (λ zs. write_from (four_ahead (goal.at.returns-in-default-next-4 c).In-Some-next-3 zs)) none)
+pub returns-in_default-next-4 : goal.returns-in_default-next-4
+returns-in_default-next-4 c =
+    let none = first_none _ c.in_default-next-4.ensures.span in
+    sym (ap write_from (four (goal.at.returns-in_default-next-4 c).In-Some-next-3) ∙ ap (λ zs. write_from (four_ahead (goal.at.returns-in_default-next-4 c).In-Some-next-3 zs)) none)
 
-pub returns-then-is-some : goal.returns-then-is-some
-returns-then-is-some c =
-    let before = (goal.at.returns-then-is-some c).In-Some-next-4 in
+pub returns-then-is_some : goal.returns-then-is_some
+returns-then-is_some c =
+    let before = (goal.at.returns-then-is_some c).In-Some-next-4 in
     let all = five before in
-    elim c.then-is-some.branch [
-      | then-is-some-via-then-is-some w ↦ sixth (span_of c.in-Some.kind) (span_of c.in-Some-next.register) (span_of c.in-Some-next-2.shift) (span_of c.in-Some-next-3.width) (span_of c.in-Some-next-4.value) _ c.next-6.result c.next-6.ensures.span (sym c.is-some.ensures ∙ w.if-is-some.true) ∙ sym (ap write_from all)
-      | then-is-some-via-else-is-some+then-not-is-word w ↦
-          let none = none_left _ c.next-6.result c.next-6.ensures.span (sym c.is-some.ensures ∙ w.if-is-some.false) in
-          sym (ap write_from (all ∙ ap (five_ahead before) none) ∙ cond-false _ _ _ (sym w.is-word.ensures ∙ w.if-not-is-word.true))
+    elim c.then-is_some.branch [
+      | then-is_some-via-then-is_some w ↦ sixth (span_of c.in-Some.kind) (span_of c.in-Some-next.register) (span_of c.in-Some-next-2.shift) (span_of c.in-Some-next-3.width) (span_of c.in-Some-next-4.value) _ c.next-6.result c.next-6.ensures.span (sym c.is_some.ensures ∙ w.if-is_some.true) ∙ sym (ap write_from all)
+      | then-is_some-via-else-is_some+then-not-is_word w ↦
+          let none = none_left _ c.next-6.result c.next-6.ensures.span (sym c.is_some.ensures ∙ w.if-is_some.false) in
+          sym (ap write_from (all ∙ ap (five_ahead before) none) ∙ cond-false _ _ _ (sym w.is_word.ensures ∙ w.if-not-is_word.true))
     ]
 
 pub returns : goal.returns
 returns c =
     let before = (goal.at.returns c).In-Some-next-4 in
     let all = five before in
-    let none = none_left _ c.next-6.result c.next-6.ensures.span (sym c.is-some.ensures ∙ c.if-is-some.false) in
-    c.entry-of.ensures ∙ sym (ap write_from (all ∙ ap (five_ahead before) none) ∙ cond-true _ _ _ (sym c.is-word.ensures ∙ c.if-not-is-word.false))
+    let none = none_left _ c.next-6.result c.next-6.ensures.span (sym c.is_some.ensures ∙ c.if-is_some.false) in
+    c.entry_of.ensures ∙ sym (ap write_from (all ∙ ap (five_ahead before) none) ∙ cond-true _ _ _ (sym c.is_word.ensures ∙ c.if-not-is_word.false))

@@ -1,5 +1,4 @@
 use Rattle.std.proofs.Common.{sym}
-use Rattle.part.specs.declared.row.Row.{Row}
 use Rattle.sheet.proofs.SheetSteps.{zeros, rise_fails, rise_goes_on, rise_ends}
 use Rattle.sheet.proofs.duties.values_rise.Goals as goal
 

@@ -11,13 +11,13 @@ pub returns-then-digit-base : goal.returns-then-digit-base
 returns-then-digit-base c =
     sym (sym c.loop-b.invariant.0 ∙ value_no c.args.base c.args.word.now c.loop-b.b-index c.loop-b.n c.loop-b-test.true (omega arith))
 
-pub overflow-mul-n : goal.overflow-mul-n
-overflow-mul-n c =
+pub overflow_mul-n : goal.overflow_mul-n
+overflow_mul-n c =
     let e : c.loop-b.n * c.from.result ≡ c.loop-b.n * c.args.base = cc in
     omega (arith, more_fits c.args.base c.loop-b.n 0 c.loop-b.b-index (length c.args.word.now) c.loop-b.invariant.1 (omega arith) c.loop-b-test.true)
 
-pub overflow-add-n : goal.overflow-add-n
-overflow-add-n c =
+pub overflow_add-n : goal.overflow_add-n
+overflow_add-n c =
     let e : c.loop-b.n * c.from.result ≡ c.loop-b.n * c.args.base = cc in
     omega (arith, more_fits c.args.base c.loop-b.n c.from-in-loop-b.result c.loop-b.b-index (length c.args.word.now) c.loop-b.invariant.1 (omega arith) c.loop-b-test.true)
 

@@ -8,5 +8,5 @@ use Rattle.files.proofs.text.ShortText.put.Goals as goal
 pub returns : goal.returns
 returns c = let t = c.args.self.now in record {
   end = refl;
-  after = put_mid-paste c.args.at _ c.args.out.now c.copy-from-slice.new.self (holds t) t.len (c.copy-from-slice.ensures.after ∙ ap (λ n. take n t.bytes) (sub-zero _)) (omega arith) (sym (length-holds t));
+  after = put_mid-paste c.args.at _ c.args.out.now c.copy_from_slice.new.self (holds t) t.len (c.copy_from_slice.ensures.after ∙ ap (λ n. take n t.bytes) (sub-zero _)) (omega arith) (sym (length-holds t));
 }

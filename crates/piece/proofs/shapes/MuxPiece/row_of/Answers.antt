@@ -1,4 +1,4 @@
-use Rattle.std.proofs.Common.{◌≡◌, ℕ, ◌<◌, ◌≤◌, length, sym, ap, ◌∙◌, arith}
+use Rattle.std.proofs.Common.{◌<◌, length, sym, ◌∙◌, arith}
 use Rattle.piece.specs.RowLists.{named_row, named_none}
 use Rattle.piece.specs.MuxRows.{own, length_own, mux_own_counts}
 use Rattle.piece.proofs.shapes.MuxPiece.row_of.Goals as goal

@@ -1,9 +1,9 @@
-use Rattle.std.proofs.Common.{◌≡◌, ℕ, ◌+◌, ◌-◌, ◌*◌, ◌/◌, ◌%◌, ◌^◌, ◌<◌, ◌≤◌, sym, ap, ◌∙◌, arith}
+use Rattle.std.proofs.Common.{ℕ, ◌/◌, ◌%◌, ◌^◌, ◌<◌, ◌≤◌, sym, ap, ◌∙◌, arith}
 use Rattle.std.proofs.lemmas.Nat.{one_shl, pow_pos}
 use Rattle.piece.specs.RowLists.{named_none}
 use Rattle.piece.specs.PllRows.{value_n, value_d, n_lt, named_at, pll_counts}
 use Rattle.piece.proofs.shapes.PllPiece.row_of.Goals as goal
-use Rattle.piece.proofs.shapes.PllPiece.row_of.Goals.{then-n-eq0-via-then-n-eq0, then-n-eq0-via-else-n-eq0+then-d-eq0, then-n-eq0-via-else-n-eq0+else-d-eq0+then-n-most-n}
+use Rattle.piece.proofs.shapes.PllPiece.row_of.Goals.{then-n-eq0-via-then-n-eq0, then-n-eq0-via-else-n-eq0+then-d-eq0, then-n-eq0-via-else-n-eq0+else-d-eq0+then-n-most_n}
 
 pub returns-then-n-eq0 : goal.returns-then-n-eq0
 returns-then-n-eq0 c =
@@ -18,7 +18,7 @@ returns-then-n-eq0 c =
     elim c.then-n-eq0.branch [
       | then-n-eq0-via-then-n-eq0 w ↦ omega (arith, n, w.if-n-eq0.true)
       | then-n-eq0-via-else-n-eq0+then-d-eq0 w ↦ omega (arith, d, ap (λ (x : ℕ). v % x) (sym s) ∙ w.if-d-eq0.true)
-      | then-n-eq0-via-else-n-eq0+else-d-eq0+then-n-most-n w ↦ omega (arith, n, t, w.if-n-most-n.true, w.most-n.ensures)
+      | then-n-eq0-via-else-n-eq0+else-d-eq0+then-n-most_n w ↦ omega (arith, n, t, w.if-n-most_n.true, w.most_n.ensures)
     ]))
 
 pub returns : goal.returns
@@ -30,5 +30,5 @@ returns c =
     let n1 : 1 ≤ c.args.value.0 / 2 ^ c.args.self.now.dw = omega arith in
     let low = rw s at c.if-d-eq0.false in
     let d1 : 1 ≤ c.args.value.0 % 2 ^ c.args.self.now.dw = omega arith in
-    let top : c.args.value.0 / 2 ^ c.args.self.now.dw < 2 ^ c.args.self.now.nw = omega (arith, c.if-n-most-n.false, c.most-n.ensures, pow_pos p.nw) in
-    named_at p.parent p.nw p.dw p.dwide v _ _ c.most-d.ensures s n1 d1 top
+    let top : c.args.value.0 / 2 ^ c.args.self.now.dw < 2 ^ c.args.self.now.nw = omega (arith, c.if-n-most_n.false, c.most_n.ensures, pow_pos p.nw) in
+    named_at p.parent p.nw p.dw p.dwide v _ _ c.most_d.ensures s n1 d1 top

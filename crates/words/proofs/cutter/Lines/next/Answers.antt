@@ -11,8 +11,8 @@ returns-then-place-text c =
 
 pub returns : goal.returns
 returns c =
-    let e : lines_from (spans_of 10 c.args.self.now.at (drop c.args.self.now.at c.args.self.now.text.now)) ≡ record { place = c.args.self.now.at; bytes = drop c.args.self.now.at (take c.span-end-end.result c.args.self.now.text.now); ended = ltb c.span-end-end.result (length c.args.self.now.text.now) } ∷ lines_from (spans_of 10 c.if-ended.self (drop c.if-ended.self c.args.self.now.text.now)) = elim c.if-ended.branch [
-      | then-ended w ↦ line_more c.args.self.now.at c.span-end-end.result c.args.self.now.text.now c.span-end-end.ensures.end c.if-ended.self w.self-is w.if-ended.true
-      | else-ended w ↦ line_last c.args.self.now.at c.span-end-end.result c.args.self.now.text.now c.span-end-end.ensures.end c.if-ended.self w.self-is (omega arith) (omega arith)
+    let e : lines_from (spans_of 10 c.args.self.now.at (drop c.args.self.now.at c.args.self.now.text.now)) ≡ record { place = c.args.self.now.at; bytes = drop c.args.self.now.at (take c.span_end-end.result c.args.self.now.text.now); ended = ltb c.span_end-end.result (length c.args.self.now.text.now) } ∷ lines_from (spans_of 10 c.if-ended.self (drop c.if-ended.self c.args.self.now.text.now)) = elim c.if-ended.branch [
+      | then-ended w ↦ line_more c.args.self.now.at c.span_end-end.result c.args.self.now.text.now c.span_end-end.ensures.end c.if-ended.self w.self-is w.if-ended.true
+      | else-ended w ↦ line_last c.args.self.now.at c.span_end-end.result c.args.self.now.text.now c.span_end-end.ensures.end c.if-ended.self w.self-is (omega arith) (omega arith)
     ] in
     record { line = sym (ap first e); after = sym (ap others e) }

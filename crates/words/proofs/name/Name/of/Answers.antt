@@ -1,5 +1,4 @@
-use Rattle.std.proofs.Common.{◌≡◌, ℕ, ◌+◌, ◌-◌, ◌≤◌, true, ltb, leb, List, ◌++◌, length, take, drop, Some, sym, refl, ap, ◌∙◌, subst, arith}
-use native.Mathlib.Nat.{sub-zero}
+use Rattle.std.proofs.Common.{◌≡◌, ℕ, ◌-◌, ◌≤◌, true, List, ◌++◌, length, take, drop, Some, sym, refl, ap, ◌∙◌, arith}
 use Rattle.std.proofs.lemmas.List.{length-append, length-drop, take_at}
 use Rattle.std.proofs.lemmas.Bool.{and_parts, leb-true, cond-true}
 use Rattle.words.specs.Names.{is_name}
@@ -16,15 +15,19 @@ front xs w z e = take_at xs (drop (length w - 0) z) (length w) (ap length e) ∙
 as_long : (xs w z : List ℕ) → xs ≡ w → length z ≡ 12 → length w ≤ 12 → length (xs ++ drop (length w - 0) z) ≡ 12
 as_long xs w z e n h = let k = ap length e in simp (length-append, length-drop) (omega arith)
 
-pub invariant-of-result : goal.invariant-of-result
-invariant-of-result c =
+pub invariant_of-result : goal.invariant_of-result
+invariant_of-result c =
     let w = c.args.word.now in
-    let named = sym c.if-not-is-name.ensures in
-    let copied = c.copy-from-slice.ensures.after in
-    (as_long _ w _ copied refl (short w named), (short w named, (ap is_name (front _ w _ copied) ∙ named, tt)))
+    let named = sym c.if-not-is_name.ensures in
+    let copied = c.copy_from_slice.ensures.after in
+    record {
+      room = as_long _ w _ copied refl (short w named);
+      short = short w named;
+      named = ap is_name (front _ w _ copied) ∙ named;
+    }
 
 pub returns : goal.returns
 returns c =
     let w = c.args.word.now in
-    let named = sym c.if-not-is-name.ensures in
-    ap Some (front _ w _ c.copy-from-slice.ensures.after) ∙ sym (cond-true _ _ _ named)
+    let named = sym c.if-not-is_name.ensures in
+    ap Some (front _ w _ c.copy_from_slice.ensures.after) ∙ sym (cond-true _ _ _ named)
