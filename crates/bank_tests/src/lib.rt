@@ -1,4 +1,5 @@
 // Examples for the banks: each make at its edges, device words, and entries in order.
+#![tactic(auto)]
 
 #[cfg(test)]
 mod tests {

@@ -1,5 +1,6 @@
 // Examples for board files: each way in which a line is bad, with its place, boards at their limits, what is read of each kind
 // of line, and the word at a fault.
+#![tactic(auto)]
 
 #[cfg(test)]
 mod list {
@@ -513,11 +514,12 @@ mod pieces {
         let PieceKind::Mux(p) = piece.kind else {
             return Err(Fail::new("no mux"));
         };
+        let parents = p.parents;
         assert_eq!(rt; p.number, 5);
         assert_eq!(rt; p.count, 3);
-        assert_eq!(rt; p.parents[0], 4);
-        assert_eq!(rt; p.parents[1], 0);
-        assert_eq!(rt; p.parents[2], 1);
+        assert_eq!(rt; parents[0], 4);
+        assert_eq!(rt; parents[1], 0);
+        assert_eq!(rt; parents[2], 1);
         assert_eq!(rt;
             p.field,
             Place {
@@ -545,10 +547,11 @@ mod pieces {
         let PieceKind::Mux(p) = piece.kind else {
             return Err(Fail::new("no mux"));
         };
+        let parents = p.parents;
         assert_eq!(rt; p.number, 7);
         assert_eq!(rt; p.count, 2);
-        assert_eq!(rt; p.parents[0], 6);
-        assert_eq!(rt; p.parents[1], 0);
+        assert_eq!(rt; parents[0], 6);
+        assert_eq!(rt; parents[1], 0);
         assert_eq!(rt; p.style, MuxStyle::Bit);
         Ok(())
     }

@@ -1,4 +1,6 @@
 // boardlist: lists the clocks of `board.txt` in the folder that it is run in, one to a line, or says what is wrong with the file.
+#![tactic(auto)]
+
 use anyhow::anyhow;
 use listing::listing;
 use std::fs;

@@ -1,5 +1,6 @@
 // Examples for the text files: register lists at each way to be bad, numbers and names at their edges, printing into a lent
 // buffer, and whole runs.
+#![tactic(auto)]
 
 #[cfg(test)]
 mod registers {

@@ -1,4 +1,6 @@
 // Examples for parts: how field values read for each kind of piece, rows at their edges, and sheets that keep or break a duty.
+#![tactic(auto)]
+
 ghost use Rattle.std.specs.Prelude.{◌≡◌};
 
 #[cfg(test)]

@@ -1,5 +1,7 @@
 // regplay: plays the writes of `writes.txt` on the bank that `regs.txt` describes, both in the folder that it is run in.
 // It prints each write with its answer, and at the end the register list; a fault in a file ends the run.
+#![tactic(auto)]
+
 use anyhow::anyhow;
 use replay::transcript;
 use std::fs;
