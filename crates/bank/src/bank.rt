@@ -10,7 +10,7 @@ pub trait Bank {
     // How many bits a word has, 1 to 32.
     const WORD_BITS: u32;
 
-    // That number for clauses, which cannot name the constant.
+    // That number, as clauses name it.
     ghost bits: { ℕ };
 
     // The bank's meaning: its list of words.
