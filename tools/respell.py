@@ -3,14 +3,13 @@
 
 Run once, at the top, after the toolchain's own porting script. A definition keeps its words: `sharesBit` becomes
 `shares_bit`. In the name of a lemma a dash stays only where it joins the names of two definitions; else it becomes an
-underscore. Names that would fall together are told apart by the table SPECIAL. Only what stands in specs/, in proofs/
-and in ghost text of src/ is respelled: functions, fields, strings and comments' quoted text keep their spelling.
+underscore. Names that would fall together in one crate are told apart by the table SPECIAL. In src/ only words in camel
+case are respelled, which are words of clauses and comments; functions, fields of src/ and strings keep their spelling.
 """
 import glob
 import re
 import sys
 
-TOKEN = re.compile(r"[A-Za-z0-9_'-]+")
 HEAD = re.compile(r"^(?:|\s+(?=abbrev|pub|[a-z0-9]+-))(?:(?:abbrev|unfoldable|pub) )*(?:(?:data|record|ruleset) )?([^\s:{(]+)(?: \{[^}]*\})*(?: \([^)]*\))* :")
 KEPT_DASH = {"length-holds", "length-others"}
 SPECIAL = {

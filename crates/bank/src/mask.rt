@@ -2,7 +2,7 @@
 ghost use Rattle.std.specs.Prelude.{◌≡◌, ℕ, ◌+◌, ◌^◌, ◌<◌, ◌≤◌, IfOk, Ok, slice_index};
 ghost use Rattle.bank.specs.Banks.{write_of, words_after};
 ghost use Rattle.bank.specs.Masks.{device_word, device_word_of, taken, sent};
-ghost use Rattle.std.proofs.Common.{rules, arith};
+ghost use Rattle.std.proofs.Common.{rules};
 
 use crate::bank::Bank;
 use crate::bits::{field_bits, is_outside, is_too_wide};

@@ -1,6 +1,6 @@
 // The word bank: 32-bit words, written whole.
 ghost use Rattle.std.specs.Prelude.{◌≡◌, ℕ, ◌^◌, ◌<◌, IfOk, slice_index};
-ghost use Rattle.std.proofs.Common.{rules, arith};
+ghost use Rattle.std.proofs.Common.{rules};
 
 use crate::bank::Bank;
 use crate::bits::{field_bits, is_outside, is_too_wide, with_field};
