@@ -1,4 +1,3 @@
 pub mod FieldBits
 pub mod DeviceWords
 pub mod BankLaws
-pub mod EntrySteps

@@ -11,13 +11,10 @@ pub trait Bank {
     const WORD_BITS: u32;
 
     // That number, as clauses name it.
-    ghost bits: { ℕ };
+    ghost WORD_BITS: { ℕ };
 
     // The bank's meaning: its list of words.
     ghost words: { Self → List ℕ };
-
-    fn size_in_bits() -> u32
-        ensures { result ≡ bits };
 
     fn word_count(&self) -> usize
         ensures { result ≡ length (words self.now) };
@@ -26,14 +23,23 @@ pub trait Bank {
     fn word(&self, index: usize) -> Option<u32>
         ensures { result ≡ word_at (words self.now) index };
 
+    // What a field holds; every make of bank reads alike.
     fn read(&self, at: Place) -> Result<FieldValue, BankFault>
-        ensures { result ≡ read_of bits (words self.now) at };
+        ensures { result ≡ read_of WORD_BITS (words self.now) at }
+    {
+        let bits = at.bits_in(Self::WORD_BITS)?;
+        let word = self
+            .word(at.register as usize)
+            .ok_or(BankFault::OutsideBank)?;
+        Ok(FieldValue(bits.value_in(word)))
+    }
 
+    // Puts a value into a field. Place and value come apart, as `read` takes a place; an Entry for each call is no plainer.
     fn write(&mut self, at: Place, value: FieldValue) -> Result<(), BankFault>
-        ensures answer { result ≡ write_of bits (words self.old) at value }
-        ensures after { words self.new ≡ words_after bits (words self.old) at value };
+        ensures answer { result ≡ write_of WORD_BITS (words self.old) at value }
+        ensures after { words self.new ≡ words_after WORD_BITS (words self.old) at value };
 
-    ghost size: { (1 ≤ bits) × (bits ≤ 32) };
+    ghost size: { (1 ≤ WORD_BITS) × (WORD_BITS ≤ 32) };
 
-    ghost fits: { (b : Self) → EachFits bits (words b) };
+    ghost fits: { (b : Self) → EachFits WORD_BITS (words b) };
 }

@@ -13,12 +13,11 @@ pub fn write_then_read<B: Bank>(
     at: Place,
     value: FieldValue,
 ) -> Result<FieldValue, BankFault>
-    ensures answer { result ≡ result_and (write_of B.Bank.bits (B.Bank.words bank.old) at value) (Ok value) }
-    ensures after { B.Bank.words bank.new ≡ words_after B.Bank.bits (B.Bank.words bank.old) at value }
-    ensures count { length (B.Bank.words bank.new) ≡ length (B.Bank.words bank.old) }
+    ensures answer { result ≡ result_and (write_of B.WORD_BITS (B.words bank.old) at value) (Ok value) }
+    ensures after { B.words bank.new ≡ words_after B.WORD_BITS (B.words bank.old) at value }
+    ensures count { length (B.words bank.new) ≡ length (B.words bank.old) }
 {
-    bank.write(at, value)?;
-    bank.read(at)
+    write_beside(bank, at, value, at)
 }
 
 // Writes one field and reads another: where the two share no bit, the write has left it as it was.
@@ -28,9 +27,9 @@ pub fn write_beside<B: Bank>(
     value: FieldValue,
     beside: Place,
 ) -> Result<FieldValue, BankFault>
-    ensures answer { result ≡ result_and (write_of B.Bank.bits (B.Bank.words bank.old) at value) (read_of B.Bank.bits (words_after B.Bank.bits (B.Bank.words bank.old) at value) beside) }
-    ensures left { shares_bit at beside ≡ false → result ≡ result_and (write_of B.Bank.bits (B.Bank.words bank.old) at value) (read_of B.Bank.bits (B.Bank.words bank.old) beside) }
-    ensures after { B.Bank.words bank.new ≡ words_after B.Bank.bits (B.Bank.words bank.old) at value }
+    ensures answer { result ≡ result_and (write_of B.WORD_BITS (B.words bank.old) at value) (read_of B.WORD_BITS (words_after B.WORD_BITS (B.words bank.old) at value) beside) }
+    ensures left { shares_bit at beside ≡ false → result ≡ result_and (write_of B.WORD_BITS (B.words bank.old) at value) (read_of B.WORD_BITS (B.words bank.old) beside) }
+    ensures after { B.words bank.new ≡ words_after B.WORD_BITS (B.words bank.old) at value }
 {
     bank.write(at, value)?;
     bank.read(beside)
@@ -38,8 +37,8 @@ pub fn write_beside<B: Bank>(
 
 // Writes into a field what stands there: no word changes.
 pub fn rewrite<B: Bank>(bank: &mut B, field: Place) -> Result<FieldValue, BankFault>
-    ensures answer { result ≡ read_of B.Bank.bits (B.Bank.words bank.old) field }
-    ensures after { B.Bank.words bank.new ≡ B.Bank.words bank.old }
+    ensures answer { result ≡ read_of B.WORD_BITS (B.words bank.old) field }
+    ensures after { B.words bank.new ≡ B.words bank.old }
 {
     let value = bank.read(field)?;
     bank.write(field, value)?;

@@ -8,8 +8,8 @@ use crate::field::Entry;
 
 // Writes the entries one after the other, and stops at the first that is refused.
 pub fn play<B: Bank>(bank: &mut B, entries: &[Entry]) -> Result<(), BankFault>
-    ensures answer { result ≡ play_of B.Bank.bits (B.Bank.words bank.old) entries.now }
-    ensures after { B.Bank.words bank.new ≡ play_after B.Bank.bits (B.Bank.words bank.old) entries.now }
+    ensures answer { result ≡ play_of B.WORD_BITS (B.words bank.old) entries.now }
+    ensures after { B.words bank.new ≡ play_after B.WORD_BITS (B.words bank.old) entries.now }
 {
     for e in entries {
         bank.write(e.place, e.value)?;

@@ -3,7 +3,6 @@ ghost use Rattle.std.specs.Prelude.{◌≡◌, ℕ, ◌^◌, ◌<◌, IfOk, slic
 ghost use Rattle.std.proofs.Common.{rules};
 
 use crate::bank::Bank;
-use crate::bits::{field_bits, is_outside, is_too_wide, with_field};
 use crate::fault::BankFault;
 use crate::field::{FieldValue, Place};
 use std::alloc::{AllocError, Global};
@@ -16,6 +15,7 @@ pub struct WordBank {
 
 impl WordBank {
     // A bank that holds these words; want of memory is the one refusal.
+    // The mask bank has such a function too: one bank over both words is no plainer, since only that one promises a device word.
     pub fn from_words(heap: Global, words: &[u32]) -> Result<WordBank, AllocError>
         ensures { IfOk result (λ b. b.words.items ≡ words.now) }
     {
@@ -27,7 +27,7 @@ impl WordBank {
 impl Bank for WordBank {
     const WORD_BITS: u32 = 32;
 
-    ghost bits = { 32 };
+    ghost WORD_BITS = { 32 };
 
     ghost words = { λ b. b.words.items };
 
@@ -35,39 +35,21 @@ impl Bank for WordBank {
 
     ghost fits = { Prim.search rules };
 
-    fn size_in_bits() -> u32 {
-        Self::WORD_BITS
-    }
-
     fn word_count(&self) -> usize {
         self.words.len()
     }
 
     fn word(&self, index: usize) -> Option<u32> {
-        if index < self.word_count() {
-            Some(self.words[index])
-        } else {
-            None
-        }
-    }
-
-    fn read(&self, at: Place) -> Result<FieldValue, BankFault> {
-        if is_outside(Self::WORD_BITS, self.word_count(), at) {
-            return Err(BankFault::OutsideBank);
-        }
-        let word = self.words[at.register as usize];
-        Ok(FieldValue(field_bits(word, at.shift, at.width)))
+        self.words.get(index).copied()
     }
 
     fn write(&mut self, at: Place, value: FieldValue) -> Result<(), BankFault> {
-        if is_outside(Self::WORD_BITS, self.word_count(), at) {
-            return Err(BankFault::OutsideBank);
-        }
-        if is_too_wide(at, value) {
-            return Err(BankFault::TooWide);
-        }
-        let register = at.register as usize;
-        self.words[register] = with_field(self.words[register], at.shift, at.width, value.0);
+        let bits = at.bits_in(Self::WORD_BITS)?;
+        let word = self
+            .words
+            .get_mut(at.register as usize)
+            .ok_or(BankFault::OutsideBank)?;
+        *word = bits.put(*word, bits.fitted(value)?);
         Ok(())
     }
 }

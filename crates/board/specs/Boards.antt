@@ -1,6 +1,7 @@
 -- A board file: one clock to a line, each known to the lines below it by its name. Assumes nothing.
-use Rattle.std.specs.Prelude.{ℕ, zero, suc, ◌+◌, ◌-◌, ◌^◌, Bool, true, false, cond, not, ◌&&◌, List, [], ◌∷◌, ◌++◌, length, drop, is_some, Some, None, Ok, Err, codes, Option, Result, ◌==◌, nat_le, nat_lt}
+use Rattle.std.specs.Prelude.{ℕ, zero, suc, ◌-◌, ◌^◌, Bool, true, false, cond, not, ◌&&◌, List, [], ◌∷◌, ◌++◌, length, drop, is_some, Some, None, Ok, Err, codes, Option, Result, ◌==◌, nat_le, nat_lt}
 use Rattle.bank.specs.declared.field.Place.{Place}
+use Rattle.std.specs.List.{position, list_all}
 use Rattle.std.specs.Option.{ok_or}
 use Rattle.std.specs.Str.{bytes_eq}
 use Rattle.files.specs.declared.fault.FileFault.{FileFault}
@@ -30,13 +31,9 @@ abbrev pub and_then : {X Y : Type 0} → Result X FileFault → (X → Result Y 
 and_then (Ok x) f = f x
 and_then (Err e) f = Err e
 
--- the number of the first clock with a name, where the clocks are numbered from i on
-abbrev pub named_from : ℕ → List Clock → List ℕ → Option ℕ
-named_from i [] w = None
-named_from i (c ∷ cs) w = cond (bytes_eq c.name w) (Some i) (named_from (i + 1) cs w)
-
+-- the number of the first clock with a name
 abbrev pub clock_named : List Clock → List ℕ → Option ℕ
-clock_named earlier w = named_from 0 earlier w
+clock_named earlier w = position (λ c. bytes_eq c.name w) earlier
 
 -- NAME: a name that no earlier clock has. A word that is missing is a fault of the line, which begins at place p
 abbrev pub name_word : List Clock → ℕ → Option TextSpan → Result (List ℕ) FileFault
@@ -57,6 +54,11 @@ abbrev pub number_word : ℕ → ℕ → ℕ → Option TextSpan → Result Numb
 number_word lo hi p None = Err (bad_clock p)
 number_word lo hi p (Some w) = within lo hi w.place (number_of w.bytes)
 
+-- a word that names one value out of a few
+abbrev pub named_word : {X : Type 0} → (List ℕ → Option X) → ℕ → Option TextSpan → Result X FileFault
+named_word named p None = Err (bad_clock p)
+named_word named p (Some w) = ok_or (named w.bytes) (bad_word w.place)
+
 -- FLAGS: `-`, `l`, `s` or `ls`
 abbrev pub marked : Bool → Bool → Marks
 marked lift still = record { lift = lift; still = still }
@@ -65,8 +67,7 @@ abbrev pub marks_named : List ℕ → Option Marks
 marks_named w = cond (bytes_eq w (codes "-")) (Some (marked false false)) (cond (bytes_eq w (codes "l")) (Some (marked true false)) (cond (bytes_eq w (codes "s")) (Some (marked false true)) (cond (bytes_eq w (codes "ls")) (Some (marked true true)) None)))
 
 abbrev pub marks_word : ℕ → Option TextSpan → Result Marks FileFault
-marks_word p None = Err (bad_clock p)
-marks_word p (Some w) = ok_or (marks_named w.bytes) (bad_word w.place)
+marks_word p w = named_word marks_named p w
 
 -- STYLE of a divider: `zero` or `one`; of a mux: `plain` or `bit`
 abbrev pub divider_style : List ℕ → Option DividerStyle
@@ -76,12 +77,10 @@ abbrev pub mux_style : List ℕ → Option MuxStyle
 mux_style w = cond (bytes_eq w (codes "plain")) (Some Plain) (cond (bytes_eq w (codes "bit")) (Some Bit) None)
 
 abbrev pub divider_style_word : ℕ → Option TextSpan → Result DividerStyle FileFault
-divider_style_word p None = Err (bad_clock p)
-divider_style_word p (Some w) = ok_or (divider_style w.bytes) (bad_word w.place)
+divider_style_word p w = named_word divider_style p w
 
 abbrev pub mux_style_word : ℕ → Option TextSpan → Result MuxStyle FileFault
-mux_style_word p None = Err (bad_clock p)
-mux_style_word p (Some w) = ok_or (mux_style w.bytes) (bad_word w.place)
+mux_style_word p w = named_word mux_style p w
 
 -- PARENT..: each the name of an earlier clock
 abbrev pub parent_words : List Clock → List TextSpan → Result (List ℕ) FileFault
@@ -209,8 +208,7 @@ board_from earlier [] = record { clocks = earlier; fault = None }
 board_from earlier (l ∷ ls) = next_line earlier (line_clock earlier l) (λ c. board_from (earlier ++ c ∷ []) ls)
 
 abbrev pub all_ended : List TextLine → Bool
-all_ended [] = true
-all_ended (l ∷ ls) = l.ended && all_ended ls
+all_ended ls = list_all (λ l. l.ended) ls
 
 -- 1 to 64 lines, each ended by an LF
 abbrev pub good_lines : List TextLine → Bool

@@ -3,6 +3,7 @@
 
 mod line;
 mod lines;
+mod named;
 mod reading;
 mod taking;
 

@@ -350,14 +350,11 @@ mod limits {
 
     // A board of so many sources, named by two digits each.
     fn sources(heap: Global, count: u8) -> Result<Vec<u8>, Fail> {
-        let mut text = Vec::new(heap);
+        let mut text = String::new(heap);
         for i in 0..count {
-            text.extend_from_slice(b"src ")?;
-            text.push(b'0' + i / 10)?;
-            text.push(b'0' + i % 10)?;
-            text.extend_from_slice(b" 5\n")?;
+            write!(text, "src {i:02} 5\n")?;
         }
-        Ok(text)
+        Ok(text.into_bytes())
     }
 
     #[test]
@@ -514,9 +511,9 @@ mod pieces {
         let PieceKind::Mux(p) = piece.kind else {
             return Err(Fail::new("no mux"));
         };
-        let parents = p.parents;
+        let parents = p.parents.as_slice();
         assert_eq!(rt; p.number, 5);
-        assert_eq!(rt; p.count, 3);
+        assert_eq!(rt; parents.len(), 3);
         assert_eq!(rt; parents[0], 4);
         assert_eq!(rt; parents[1], 0);
         assert_eq!(rt; parents[2], 1);
@@ -547,9 +544,9 @@ mod pieces {
         let PieceKind::Mux(p) = piece.kind else {
             return Err(Fail::new("no mux"));
         };
-        let parents = p.parents;
+        let parents = p.parents.as_slice();
         assert_eq!(rt; p.number, 7);
-        assert_eq!(rt; p.count, 2);
+        assert_eq!(rt; parents.len(), 2);
         assert_eq!(rt; parents[0], 6);
         assert_eq!(rt; parents[1], 0);
         assert_eq!(rt; p.style, MuxStyle::Bit);

@@ -7,6 +7,7 @@ use std::fs;
 use std::io::Write;
 
 fn main(rt: HostRuntime) -> anyhow::Result<()> {
+    // as regplay reads its files: a crate for these lines is no plainer
     let text = match fs::read(&rt, "board.txt") {
         Ok(text) => text,
         Err(error) => {

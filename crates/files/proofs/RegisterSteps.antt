@@ -1,7 +1,7 @@
 -- Reading a register list line by line: one more word, and the line at which it stops.
-use Rattle.std.proofs.Common.{◌≡◌, ℕ, ◌-◌, ◌%◌, ◌^◌, ◌<◌, Bool, true, false, cond, eqb, ltb, List, [], ◌∷◌, ◌++◌, map, Some, None, Ok, Err, Option, Result, sym, refl, ap, ◌∙◌, subst, inl, inr, mod-eq_of_lt, arith}
-use Rattle.std.proofs.lemmas.List.{append-nil, append_assoc}
-use Rattle.std.proofs.lemmas.Bool.{cond-true, cond-false, cases_Bool, eq-eqb, ne_eqb, ltb-true}
+use Rattle.std.proofs.Common.{◌≡◌, ℕ, ◌-◌, ◌%◌, ◌^◌, ◌<◌, Bool, true, false, cond, eqb, List, [], ◌∷◌, ◌++◌, map, Some, None, Ok, Err, Option, Result, sym, refl, ap, ◌∙◌, subst, mod-eq_of_lt}
+use Rattle.std.proofs.lemmas.Option.{cond_some}
+use Rattle.std.proofs.lemmas.Bool.{ltb-true}
 use Rattle.std.specs.List.{AllByRecursion as All}
 use Rattle.files.specs.declared.fault.FileFault.{FileFault}
 use Rattle.files.specs.declared.list.Make.{Make}
@@ -16,57 +16,23 @@ abbrev pub behind : List ℕ → Result (List ℕ) FileFault → Result (List �
 behind ws (Ok vs) = Ok (ws ++ vs)
 behind ws (Err f) = Err f
 
-pub behind_none : (r : Result (List ℕ) FileFault) → behind [] r ≡ r
-behind_none (Ok vs) = refl
-behind_none (Err f) = refl
-
-behind_push : (ws : List ℕ) (w : ℕ) (f : FileFault) (r : Result (List ℕ) FileFault) → behind (ws ++ (w ∷ [])) r ≡ behind ws (before_rest (Some w) f r)
-behind_push ws w f (Ok vs) = ap Ok (append_assoc ws (w ∷ []) vs)
-behind_push ws w f (Err e) = refl
-
-module _ (make : Make) (room : ℕ) (l : TextLine) (lines : List TextLine) (more : lines ≡ l ∷ others lines) where
-  -- a line past the last that there is room for
-  pub words_full : room ≡ 0 → words_from make room lines ≡ Err (bad_registers l.place)
-  words_full e = ap (words_from make room) more ∙ cond-true _ _ _ (eq-eqb room 0 e)
-
-  module _ (some : room ≡ 0 → ⊥) where
-    step : words_from make room lines ≡ before_rest (word_line make l) (bad_registers l.place) (words_from make (room - 1) (others lines))
-    step = ap (words_from make room) more ∙ cond-false _ _ _ (ne_eqb room 0 some)
-
-    -- a line that holds no word
-    pub words_bad : word_line make l ≡ None → words_from make room lines ≡ Err (bad_registers l.place)
-    words_bad e = step ∙ ap (λ o. before_rest o (bad_registers l.place) (words_from make (room - 1) (others lines))) e
-
-    -- one more word
-    pub words_more : (ws : List ℕ) (w : ℕ) → word_line make l ≡ Some w → behind (ws ++ (w ∷ [])) (words_from make (room - 1) (others lines)) ≡ behind ws (words_from make room lines)
-    words_more ws w e =
-        behind_push ws w (bad_registers l.place) (words_from make (room - 1) (others lines))
-        ∙ ap (behind ws) (sym (step ∙ ap (λ o. before_rest o (bad_registers l.place) (words_from make (room - 1) (others lines))) e))
-
-pub words_done : (make : Make) (room : ℕ) (lines : List TextLine) (ws : List ℕ) → lines ≡ [] → behind ws (words_from make room lines) ≡ Ok ws
-words_done make room lines ws e = ap (λ ls. behind ws (words_from make room ls)) e ∙ ap Ok (append-nil ws)
-
 -- ---- each word that is read fits the make
 
 fitting_fits : (make : Make) (o : Option ℕ) (w : ℕ) → fitting make o ≡ Some w → w < 2 ^ make_bits make
-fitting_fits make None w h = let z : ◌≡◌ {A = ℕ} 0 1 = cc in absurd (omega arith)
-fitting_fits make (Some v) w h =
-    elim (cases_Bool (ltb v (2 ^ make_bits make))) [
-      | inl t ↦ let q = sym (cond-true _ (Some v) None t) ∙ h in let e : v ≡ w = cc in rw (sym e) (ltb-true v (2 ^ make_bits make) t)
-      | inr f ↦ let e : ◌≡◌ {A = Option ℕ} None (Some w) = sym (cond-false _ _ _ f) ∙ h in let z : ◌≡◌ {A = ℕ} 0 1 = cc in absurd (omega arith)
-    ]
+fitting_fits make None w h = cc
+fitting_fits make (Some v) w h = let p = cond_some _ v w h in rw (← p.1) (ltb-true v (2 ^ make_bits make) p.0)
 
 line_fits : (make : Make) (l : TextLine) (b : Bool) (w : ℕ) → cond b (fitting make (hex_word_of l.bytes)) None ≡ Some w → w < 2 ^ make_bits make
 line_fits make l true w h = fitting_fits make (hex_word_of l.bytes) w h
-line_fits make l false w h = let z : ◌≡◌ {A = ℕ} 0 1 = cc in absurd (omega arith)
+line_fits make l false w h = cc
 
 before_ok : (o : Option ℕ) (f : FileFault) (r : Result (List ℕ) FileFault) (ws : List ℕ) → before_rest o f r ≡ Ok ws → (w : ℕ) × (vs : List ℕ) × (o ≡ Some w) × (r ≡ Ok vs) × (ws ≡ w ∷ vs)
-before_ok None f r ws h = let z : ◌≡◌ {A = ℕ} 0 1 = cc in absurd (omega arith)
+before_ok None f r ws h = cc
 before_ok (Some w) f (Ok vs) ws h = (w, vs, refl, refl, cc)
-before_ok (Some w) f (Err e) ws h = let z : ◌≡◌ {A = ℕ} 0 1 = cc in absurd (omega arith)
+before_ok (Some w) f (Err e) ws h = cc
 
 ok_not_full : (b : Bool) (f : FileFault) (r : Result (List ℕ) FileFault) (ws : List ℕ) → cond b (Err f) r ≡ Ok ws → r ≡ Ok ws
-ok_not_full true f r ws h = let z : ◌≡◌ {A = ℕ} 0 1 = cc in absurd (omega arith)
+ok_not_full true f r ws h = cc
 ok_not_full false f r ws h = h
 
 pub words_fit : (make : Make) (room : ℕ) (lines : List TextLine) (ws : List ℕ) → words_from make room lines ≡ Ok ws → All (λ w. w < 2 ^ make_bits make) ws

@@ -1,5 +1,5 @@
 -- A printed write is read back as that write, and a line that says a write is what is printed of it.
-use Rattle.std.proofs.Common.{◌≡◌, ℕ, ◌+◌, ◌^◌, ◌<◌, ◌≤◌, ◌&&◌, eqb, leb, List, [], ◌∷◌, ◌++◌, map, length, get_or, IfOk, Some, None, Ok, Err, codes, decimal, Option, Result, sym, refl, ap, ◌∙◌, inl, inr, arith}
+use Rattle.std.proofs.Common.{◌≡◌, ℕ, ◌+◌, ◌^◌, ◌<◌, ◌≤◌, ◌&&◌, eqb, List, [], ◌∷◌, ◌++◌, map, length, get_or, IfOk, Some, None, Ok, Err, codes, decimal, Option, Result, sym, refl, ap, ◌∙◌, inl, inr, arith}
 use Rattle.bank.specs.declared.field.Entry.{Entry}
 use Rattle.std.specs.List.{flat_map}
 use Rattle.std.specs.Option.{ok_or}
@@ -8,6 +8,7 @@ use Rattle.std.proofs.lemmas.List.FromFn.{fill_by_all}
 use Rattle.std.proofs.ByRecursion.{All-append}
 use Rattle.std.proofs.lemmas.Slice.Eq.{bytes_eq-Decides}
 use Rattle.std.proofs.lemmas.List.{append-nil, append_assoc}
+use Rattle.std.proofs.lemmas.Option.{cond_some}
 use Rattle.std.proofs.lemmas.Bool.{cases_Bool, cond-true, cond-false, le-leb, eqb-true, and_parts}
 use Rattle.files.specs.declared.fault.FileFault.{FileFault}
 use Rattle.words.specs.Cutting.{TextSpan, TextLine, spans_of, grown, words_of, lines_of}
@@ -78,13 +79,10 @@ spans_back mark p (b ∷ bs) = elim (cases_Bool (eqb b mark)) [
 
 within : (limit n : ℕ) (o : Option ℕ) → up_to limit o ≡ Some n → o ≡ Some n
 within limit n None e = cc
-within limit n (Some m) e = elim (cases_Bool (leb m limit)) [
-  | inl t ↦ sym (cond-true _ _ _ t) ∙ e
-  | inr t ↦ let x = sym (cond-false _ (Some m) None t) ∙ e in cc
-]
+within limit n (Some m) e = let p = cond_some _ m n e in ap Some p.1
 
 then_parts : (o : Option ℕ) (f : ℕ → Option Entry) (e : Entry) → and_then o f ≡ Some e → (n : ℕ) × (o ≡ Some n) × (f n ≡ Some e)
-then_parts None f e h = absurd (let z : ◌≡◌ {A = ℕ} 0 1 = cc in omega arith)
+then_parts None f e h = cc
 then_parts (Some n) f e h = (n, refl, h)
 
 -- a word that was read is what is printed of its number

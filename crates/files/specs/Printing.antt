@@ -1,5 +1,5 @@
 -- What is printed: writes, answers, faults and register lists, and what printing does to a lent buffer. Assumes nothing.
-use Rattle.std.specs.Prelude.{ℕ, cond, List, ◌++◌, length, take, drop, Ok, Err, codes, decimal, Result, nat_le}
+use Rattle.std.specs.Prelude.{ℕ, cond, List, ◌++◌, length, drop, Ok, Err, codes, decimal, Result, nat_le}
 use Rattle.bank.specs.declared.field.Entry.{Entry}
 use Rattle.std.specs.List.{flat_map}
 use Rattle.files.specs.declared.fault.PrintFault.{PrintFault}
@@ -41,7 +41,7 @@ registers_text make words = make_text make ++ flat_map word_text words
 
 -- what a short text holds
 abbrev pub holds : ShortText → List ℕ
-holds t = take t.len t.bytes
+holds t = t.text.bytes
 
 -- how many bytes were printed, or that the buffer is too short
 abbrev pub print_of : List ℕ → List ℕ → Result ℕ PrintFault

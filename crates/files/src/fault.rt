@@ -2,25 +2,34 @@
 ghost use Rattle.std.specs.Prelude.{◌≡◌};
 ghost use Rattle.files.specs.Faults.{kind_number, print_number};
 
-// Which rule of a file is broken.
+// Which rule of a file is broken, with its number.
 #[derive(Clone, Copy, PartialEq, Eq, Debug)]
 pub enum FileFaultKind {
     // A board that is over 32,768 bytes.
-    BoardLength,
+    BoardLength = 1,
     // A board that has not 1 to 64 lines, or whose last line is unended.
-    BoardLines,
+    BoardLines = 2,
     // A clock line of an unknown kind, or with the wrong number of words.
-    ClockLine,
+    ClockLine = 5,
     // A clock's name that is none, or that an earlier line has.
-    ClockName,
+    ClockName = 6,
     // A parent that is the name of no earlier line.
-    ClockParent,
+    ClockParent = 7,
     // Any other word of a clock line that is out of its range.
-    ClockWord,
+    ClockWord = 8,
     // A line of a register list that is bad, missing, unended or one too many.
-    RegisterLine,
+    RegisterLine = 9,
     // A line of a script that is malformed or unended.
-    ScriptLine,
+    ScriptLine = 31,
+}
+
+impl FileFaultKind {
+    // A fault of this kind at a byte place.
+    pub fn at(self, place: usize) -> FileFault
+        ensures { result ≡ record { kind = self; place = place } }
+    {
+        FileFault { kind: self, place }
+    }
 }
 
 // What is wrong with a file, and the byte place at which it is.
@@ -31,35 +40,26 @@ pub struct FileFault {
 }
 
 impl FileFault {
+    // The number that is printed of it.
     pub fn number(self) -> u8
         ensures { result ≡ kind_number self.kind }
     {
-        match self.kind {
-            FileFaultKind::BoardLength => 1,
-            FileFaultKind::BoardLines => 2,
-            FileFaultKind::ClockLine => 5,
-            FileFaultKind::ClockName => 6,
-            FileFaultKind::ClockParent => 7,
-            FileFaultKind::ClockWord => 8,
-            FileFaultKind::RegisterLine => 9,
-            FileFaultKind::ScriptLine => 31,
-        }
+        self.kind as u8
     }
 }
 
-// Why nothing is printed.
+// Why nothing is printed, with its number.
 #[derive(Clone, Copy, PartialEq, Eq, Debug)]
 pub enum PrintFault {
     // The buffer is too short for the text.
-    ShortBuffer,
+    ShortBuffer = 33,
 }
 
 impl PrintFault {
+    // The number that is printed of it.
     pub fn number(self) -> u8
         ensures { result ≡ print_number self }
     {
-        match self {
-            PrintFault::ShortBuffer => 33,
-        }
+        self as u8
     }
 }

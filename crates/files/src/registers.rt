@@ -1,14 +1,15 @@
 // Reading a register list from text.
-ghost use Rattle.std.specs.Prelude.{◌≡◌, ◌%◌, ◌^◌, ◌≤◌, map, take, IfOk, Ok, Err, MatchResult};
+ghost use Rattle.std.specs.Prelude.{◌≡◌, ◌%◌, ◌^◌, map, if◌then◌else◌, IfOk, Some, None, Ok, Err, MatchResult};
 ghost use Rattle.files.specs.declared.list.ReadFault.TheVariants.{File, NoMemory};
+ghost use Rattle.std.specs.Option.{option_map};
 ghost use Rattle.words.specs.Cutting.{line_of, lines_left, others};
-ghost use Rattle.files.specs.Faults.{bad_registers};
 ghost use Rattle.files.specs.Registers.{make_bits, make_line, head_make, word_line, words_from, registers_of, ReadAs};
 
 use crate::fault::{FileFault, FileFaultKind};
 use crate::list::{Make, ReadFault, RegisterList};
+use arrayvec::ArrayVec;
 use std::alloc::{AllocError, Global};
-use words::{Line, Lines, hex_word, is_word};
+use words::{Line, Lines, hex_word};
 
 impl Make {
     // How many bits a word has.
@@ -22,29 +23,21 @@ impl Make {
     }
 }
 
-fn bad_line(place: usize) -> FileFault
-    ensures { result ≡ bad_registers place }
+// The bytes of a line that an LF ends.
+fn ended_bytes<'a>(line: &Line<'a>) -> Option<&'a [u8]>
+    ensures { option_map (λ b. b.now) result ≡ (if (line_of line.now).ended then Some (line_of line.now).bytes else None) }
 {
-    FileFault {
-        kind: FileFaultKind::RegisterLine,
-        place,
-    }
+    line.ended.then_some(line.bytes)
 }
 
 // The make that a first line names.
 fn named_make(line: &Line) -> Option<Make>
     ensures { result ≡ make_line (line_of line.now) }
 {
-    if !line.ended {
-        return None;
-    }
-    let name = line.bytes();
-    if is_word(name, b"word") {
-        Some(Make::Word)
-    } else if is_word(name, b"mask") {
-        Some(Make::Mask)
-    } else {
-        None
+    match ended_bytes(line)? {
+        b"word" => Some(Make::Word),
+        b"mask" => Some(Make::Mask),
+        _ => None,
     }
 }
 
@@ -52,43 +45,36 @@ fn named_make(line: &Line) -> Option<Make>
 fn line_word(make: Make, line: &Line) -> Option<u32>
     ensures { result ≡ word_line make (line_of line.now) }
 {
-    if !line.ended {
-        return None;
-    }
-    let word = hex_word(line.bytes())?;
-    if u64::from(word) >= 1u64 << make.word_bits() {
-        return None;
-    }
-    Some(word)
+    hex_word(ended_bytes(line)?).filter(|word| u64::from(*word) < 1u64 << make.word_bits())
 }
 
-// The words of the lines that are left, of which the first `n` places of the table then hold the `n` words.
-fn read_words(make: Make, lines: &mut Lines, words: &mut [u32; 64]) -> Result<usize, FileFault>
-    ensures { MatchResult result (λ n. (n ≤ 64) × (words_from make 64 (lines_left lines.old) ≡ Ok (take n words.new))) (λ f. words_from make 64 (lines_left lines.old) ≡ Err f) }
+// The words of the lines that are left.
+fn read_words(make: Make, lines: Lines) -> Result<ArrayVec<u32, 64>, FileFault>
+    ensures { MatchResult result (λ v. words_from make 64 (lines_left lines.entry) ≡ Ok v.items) (λ f. words_from make 64 (lines_left lines.entry) ≡ Err f) }
 {
-    let mut n = 0;
-    while let Some(line) = lines.next() {
-        if n == 64 {
-            return Err(bad_line(line.place));
+    let mut words = ArrayVec::new();
+    for line in lines {
+        let bad = FileFaultKind::RegisterLine.at(line.place);
+        if words.is_full() {
+            return Err(bad);
         }
-        let Some(word) = line_word(make, &line) else {
-            return Err(bad_line(line.place));
-        };
-        words[n] = word;
-        n += 1;
+        words.push(line_word(make, &line).ok_or(bad)?);
     }
-    Ok(n)
+    Ok(words)
+}
+
+// `&` cuts it out; a `try_from` would answer an error that can't come up, since the words of a mask list have 16 bits.
+fn lower_half(word: u32) -> u16
+    ensures { result ≡ word % 2 ^ 16 }
+{
+    (word & 0xffff) as u16
 }
 
 // The lower halves of words.
 fn lower_halves(heap: Global, words: &[u32]) -> Result<Vec<u16>, AllocError>
     ensures { IfOk result (λ v. v.items ≡ map (λ w. w % 2 ^ 16) words.now) }
 {
-    let mut halves = Vec::new(heap);
-    for word in words {
-        halves.push((*word & 0xffff) as u16)?;
-    }
-    Ok(halves)
+    words.iter().map(|word| lower_half(*word)).collect(heap)
 }
 
 impl From<FileFault> for ReadFault {
@@ -107,17 +93,13 @@ impl From<AllocError> for ReadFault {
     }
 }
 
+// The make that the first of the lines names.
 fn first_make(lines: &mut Lines) -> Result<Make, FileFault>
     ensures answer { result ≡ head_make (lines_left lines.old) }
     ensures after { lines_left lines.new ≡ others (lines_left lines.old) }
 {
-    let Some(line) = lines.next() else {
-        return Err(bad_line(0));
-    };
-    match named_make(&line) {
-        Some(make) => Ok(make),
-        None => Err(bad_line(line.place)),
-    }
+    let line = lines.next().ok_or(FileFaultKind::RegisterLine.at(0))?;
+    named_make(&line).ok_or(FileFaultKind::RegisterLine.at(line.place))
 }
 
 // Reads a register list: which make of bank, and its words. What is wrong with the text is told whatever the memory.
@@ -126,10 +108,9 @@ pub fn read_registers(heap: Global, text: &[u8]) -> Result<RegisterList, ReadFau
 {
     let mut lines = Lines::of(text);
     let make = first_make(&mut lines)?;
-    let mut words = [0; 64];
-    let count = read_words(make, &mut lines, &mut words)?;
+    let words = read_words(make, lines)?;
     match make {
-        Make::Word => Ok(RegisterList::WordList(Vec::from_slice(heap, &words[0..count])?)),
-        Make::Mask => Ok(RegisterList::MaskList(lower_halves(heap, &words[0..count])?)),
+        Make::Word => Ok(RegisterList::WordList(Vec::from_slice(heap, words.as_slice())?)),
+        Make::Mask => Ok(RegisterList::MaskList(lower_halves(heap, words.as_slice())?)),
     }
 }

@@ -1,11 +1,11 @@
-// A short text, built piece by piece without an allocator.
-ghost use Rattle.std.specs.Prelude.{◌≡◌, ◌≤◌, length};
+// A short text, held in the value itself.
+ghost use Rattle.std.specs.Prelude.{◌≤◌, length};
 
-// One printed line: its first `len` bytes.
+use arrayvec::ArrayString;
+
+// One printed line, of at most 32 bytes, which the type of its text keeps but does not show.
 #[derive(Clone, Copy)]
 pub struct ShortText {
-    pub(crate) bytes: [u8; 32],
-    pub(crate) len: usize,
-    ghost short: { len ≤ 32 },
-    ghost whole: { length bytes ≡ 32 },
+    pub(crate) text: ArrayString<32>,
+    ghost short: { length text.bytes ≤ 32 },
 }

@@ -148,23 +148,13 @@ mod line_words {
 
     // Each word of each line by its place, and how many words there are.
     fn words_at(rt: &impl Abort, text: &[u8], places: &[usize]) {
-        let mut lines = Lines::of(text);
-        let mut seen = 0;
-        for _ in 0..places.len() {
-            let Some(line) = lines.next() else {
-                break;
-            };
-            let mut words = line.words();
-            for _ in 0..places.len() {
-                let Some(word) = words.next() else {
-                    break;
-                };
-                assert!(rt; seen < places.len());
-                assert_eq!(rt; word.place, places[seen]);
-                seen += 1;
+        let mut expected = places.iter();
+        for line in Lines::of(text) {
+            for word in line.words() {
+                assert_eq!(rt; Some(&word.place), expected.next());
             }
         }
-        assert_eq!(rt; seen, places.len());
+        assert_eq!(rt; expected.next(), None);
     }
 
     #[test]
@@ -182,7 +172,7 @@ mod line_words {
 mod printing {
     use bank::{Entry, FieldValue, Place};
     use files::{
-        FileFault, FileFaultKind, Make, PrintFault, ShortText, no_at_line, no_line, ok_line,
+        FileFault, FileFaultKind, Make, PrintFault, ShortText, no_at_line, no_line, number_text, ok_line,
         print_registers, write_line,
     };
     use std::process::Abort;
@@ -217,6 +207,8 @@ mod printing {
         prints(&rt, &ok_line(), b"ok\n");
         prints(&rt, &no_line(41), b"no 41\n");
         prints(&rt, &no_line(0), b"no 0\n");
+        prints(&rt, &number_text(10), b"10");
+        prints(&rt, &number_text(18446744073709551615), b"18446744073709551615");
         prints(&rt, &no_at_line(9, 581), b"no 9 581\n");
         prints(
             &rt,

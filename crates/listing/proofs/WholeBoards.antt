@@ -1,6 +1,5 @@
 -- What reading a board answered, and what then stands in the list. Assumes nothing.
-use Rattle.std.proofs.Common.{◌≡◌, ℕ, ◌-◌, List, ◌++◌, map, length, take, Some, None, Ok, Err, Option, sym, refl, ap, ◌∙◌, arith}
-use native.Mathlib.Nat.{sub-zero}
+use Rattle.std.proofs.Common.{◌≡◌, ℕ, List, ◌++◌, map, length, take, Some, None, Ok, Option, sym, refl, ap, ◌∙◌, arith}
 use Rattle.std.proofs.lemmas.List.{take-map, take_at}
 use Rattle.board.specs.Boards.{Board, ok_or_fault, answer_of}
 use Rattle.files.specs.declared.fault.FileFault.{FileFault}
@@ -12,19 +11,12 @@ count_of : (o : Option FileFault) (m n : ℕ) → Ok n ≡ ok_or_fault o m → (
 count_of None m n e = (refl, cc)
 count_of (Some f) m n e = let z : ◌≡◌ {A = ℕ} 0 1 = cc in absurd (omega arith)
 
-fault_of : (o : Option FileFault) (m : ℕ) (f : FileFault) → Err f ≡ ok_or_fault o m → o ≡ Some f
-fault_of None m f e = let z : ◌≡◌ {A = ℕ} 0 1 = cc in absurd (omega arith)
-fault_of (Some g) m f e = let same : f ≡ g = cc in ap Some (sym same)
-
 module _ (b : Board) where
   pub without_fault : (n : ℕ) → Ok n ≡ answer_of b → b.fault ≡ None
   without_fault n e = (count_of b.fault (length b.clocks) n e).0
 
-  pub with_fault : (f : FileFault) → Err f ≡ answer_of b → b.fault ≡ Some f
-  with_fault f e = fault_of b.fault (length b.clocks) f e
-
   -- the clocks stand at the front of the list
-  pub front_clocks : (n : ℕ) (list : List Piece) (rest : List Clock) → Ok n ≡ answer_of b → map clock_of list ≡ b.clocks ++ rest → map clock_of (take (n - 0) list) ≡ b.clocks
+  pub front_clocks : (n : ℕ) (list : List Piece) (rest : List Clock) → Ok n ≡ answer_of b → map clock_of list ≡ b.clocks ++ rest → map clock_of (take n list) ≡ b.clocks
   front_clocks n list rest e after =
       let same = (count_of b.fault (length b.clocks) n e).1 in
-      ap (λ (k : ℕ). map clock_of (take k list)) (sub-zero n) ∙ (sym (take-map clock_of n list) ∙ (ap (take n) after ∙ take_at b.clocks rest n (sym same)))
+      sym (take-map clock_of n list) ∙ (ap (take n) after ∙ take_at b.clocks rest n (sym same))

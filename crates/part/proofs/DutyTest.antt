@@ -1,70 +1,50 @@
 -- The test of the duties tells just whether they are kept. Assumes nothing.
-use Rattle.std.proofs.Common.{◌≡◌, ℕ, zero, suc, ◌^◌, ◌<◌, true, not, ltb, List, [], ◌∷◌, length, is_some, Some, None, Decides, Option, sym, refl, ap, ◌∙◌, arith}
-use Rattle.std.specs.List.{slice_get}
-use Rattle.std.proofs.lemmas.Bool.{and_parts, and_from, leb-true, ltb-true, eqb-true, le-leb, lt-ltb, eq-eqb, not-true, not_from_false, false≢true}
+use Rattle.std.proofs.Common.{◌≡◌, ℕ, zero, suc, ◌^◌, ◌<◌, Bool, true, not, ltb, List, [], ◌∷◌, is_some, Some, None, Decides, Option, refl, arith}
+use Rattle.std.specs.List.{slice_get, list_all}
+use Rattle.std.proofs.lemmas.Bool.{and_from, lt-ltb}
+use Rattle.std.proofs.lemmas.Bool.Decides.{nat_tests}
 use Rattle.bank.specs.declared.field.Place.{Place}
 use Rattle.part.specs.declared.row.Row.{Row}
 use Rattle.part.specs.Meanings.{Meaning}
-use Rattle.part.specs.Duties.{Duties, RowDuty, SourceDuty, row_keeps, rows_keep, rises_above, values_rise, values_fit, no_rows, one_row_at_zero, field_keeps, bit_keeps, kind_keeps, keeps_duties}
-use Rattle.part.proofs.Options.{never_some, same_some}
+use Rattle.part.specs.Duties.{Duties, RowDuty, SourceDuty, row_keeps, rows_keep, values_fit, band_keeps, rises_above, values_rise, no_rows, one_row_at_zero, field_keeps, bit_keeps, kind_keeps, keeps_duties}
 
 -- ---- each row
 
 row_to : (number : ℕ) (r : Row) → row_keeps number r ≡ true → RowDuty number r
-row_to number r h =
-    let a = and_parts _ _ h in
-    let b = and_parts _ _ a.0 in
-    let n = and_parts _ _ b.0 in
-    let d = and_parts _ _ b.1 in
-    record { times = (leb-true 1 r.n n.0, leb-true r.n 65535 n.1); over = (leb-true 1 r.d d.0, leb-true r.d 65535 d.1); below = ltb-true r.parent number a.1 }
+row_to number r h = record { times = grind (arith, nat_tests); over = grind (arith, nat_tests); below = grind (arith, nat_tests) }
 
 row_from : (number : ℕ) (r : Row) → RowDuty number r → row_keeps number r ≡ true
-row_from number r d =
-    and_from _ _
-    (and_from _ _ (and_from _ _ (le-leb 1 r.n d.times.0) (le-leb r.n 65535 d.times.1)) (and_from _ _ (le-leb 1 r.d d.over.0) (le-leb r.d 65535 d.over.1)))
-    (lt-ltb r.parent number d.below)
+row_from number r d = grind (arith, nat_tests, d.times, d.over, d.below)
 
-rows_to : (number : ℕ) (rs : List Row) → rows_keep number rs ≡ true → (i : ℕ) (r : Row) → slice_get rs i ≡ Some r → RowDuty number r
-rows_to number [] h i r e = absurd (never_some r e)
-rows_to number (x ∷ xs) h zero r e = row_to number r (ap (row_keeps number) (sym (same_some x r e)) ∙ (and_parts _ _ h).0)
-rows_to number (x ∷ xs) h (suc i) r e = rows_to number xs (and_parts _ _ h).1 i r e
+-- a test of each row
+module _ (test : Row → Bool) where
+  all_to : (rs : List Row) → list_all test rs ≡ true → (i : ℕ) (r : Row) → slice_get rs i ≡ Some r → test r ≡ true
+  all_to [] h i r e = grind arith
+  all_to (x ∷ xs) h zero r e = grind arith
+  all_to (x ∷ xs) h (suc i) r e = let more = all_to xs in grind arith
 
-rows_from : (number : ℕ) (rs : List Row) → ((i : ℕ) (r : Row) → slice_get rs i ≡ Some r → RowDuty number r) → rows_keep number rs ≡ true
-rows_from number [] h = refl
-rows_from number (x ∷ xs) h = and_from _ _ (row_from number x (h zero x refl)) (rows_from number xs (λ i r e. h (suc i) r e))
-
-fit_to : (top : ℕ) (rs : List Row) → values_fit top rs ≡ true → (i : ℕ) (r : Row) → slice_get rs i ≡ Some r → r.value.0 < top
-fit_to top [] h i r e = absurd (never_some r e)
-fit_to top (x ∷ xs) h zero r e = let a = ltb-true x.value.0 top (and_parts _ _ h).0 in let s = ap (λ (y : Row). y.value.0) (same_some x r e) in omega arith
-fit_to top (x ∷ xs) h (suc i) r e = fit_to top xs (and_parts _ _ h).1 i r e
-
-fit_from : (top : ℕ) (rs : List Row) → ((i : ℕ) (r : Row) → slice_get rs i ≡ Some r → r.value.0 < top) → values_fit top rs ≡ true
-fit_from top [] h = refl
-fit_from top (x ∷ xs) h = and_from _ _ (lt-ltb x.value.0 top (h zero x refl)) (fit_from top xs (λ i r e. h (suc i) r e))
+  all_from : (rs : List Row) → ((i : ℕ) (r : Row) → slice_get rs i ≡ Some r → test r ≡ true) → list_all test rs ≡ true
+  all_from [] h = refl
+  all_from (x ∷ xs) h = and_from _ _ (h zero x refl) (all_from xs (λ i r e. h (suc i) r e))
 
 -- ---- rising values
 
 above_to : (v : ℕ) (rs : List Row) → rises_above v rs ≡ true → (i : ℕ) (r : Row) → slice_get rs i ≡ Some r → v < r.value.0
-above_to v [] h i r e = absurd (never_some r e)
-above_to v (x ∷ xs) h zero r e = let a = ltb-true v x.value.0 (and_parts _ _ h).0 in let s = ap (λ (y : Row). y.value.0) (same_some x r e) in omega arith
-above_to v (x ∷ xs) h (suc i) r e =
-    let both = and_parts (ltb v x.value.0) (rises_above x.value.0 xs) h in
-    let a = ltb-true v x.value.0 both.0 in
-    let b = above_to x.value.0 xs both.1 i r e in omega arith
+above_to v [] h i r e = grind arith
+above_to v (x ∷ xs) h zero r e = grind (arith, nat_tests)
+above_to v (x ∷ xs) h (suc i) r e = let more = above_to x.value.0 xs in grind (arith, nat_tests)
 
 abbrev Rising : List Row → Type 0
 Rising rs = (i j : ℕ) (r s : Row) → i < j → slice_get rs i ≡ Some r → slice_get rs j ≡ Some s → r.value.0 < s.value.0
 
 rise_on : (v : ℕ) (rs : List Row) → rises_above v rs ≡ true → values_rise rs ≡ true
 rise_on v [] h = refl
-rise_on v (x ∷ xs) h = (and_parts _ _ h).1
+rise_on v (x ∷ xs) h = grind arith
 
 rise_to : (rs : List Row) → values_rise rs ≡ true → Rising rs
-rise_to [] h i j r s lt e g = absurd (never_some r e)
-rise_to (x ∷ xs) h i zero r s lt e g = absurd (omega arith)
-rise_to (x ∷ xs) h zero (suc j) r s lt e g =
-    let a = above_to x.value.0 xs h j s g in
-    let b = ap (λ (y : Row). y.value.0) (same_some x r e) in omega arith
+rise_to [] h i j r s lt e g = grind arith
+rise_to (x ∷ xs) h i zero r s lt e g = grind arith
+rise_to (x ∷ xs) h zero (suc j) r s lt e g = let a = above_to x.value.0 xs h j s g in grind arith
 rise_to (x ∷ xs) h (suc i) (suc j) r s lt e g = rise_to xs (rise_on x.value.0 xs h) i j r s (omega arith) e g
 
 above_from : (x : Row) (rs : List Row) → Rising (x ∷ rs) → rises_above x.value.0 rs ≡ true
@@ -81,96 +61,78 @@ rise_from (x ∷ xs) h = above_from x xs h
 
 none_to : (rs : List Row) → no_rows rs ≡ true → rs ≡ []
 none_to [] h = refl
-none_to (x ∷ xs) h = absurd (false≢true h)
+none_to (x ∷ xs) h = grind arith
 
 absent_to : {A : Type 0} (o : Option A) → not (is_some o) ≡ true → o ≡ None
 absent_to None h = refl
-absent_to (Some x) h = absurd (false≢true h)
+absent_to (Some x) h = grind arith
 
 source_to : (m : Meaning) (rate : ℕ) → kind_keeps (Some rate) m ≡ true → SourceDuty m rate
-source_to m rate h =
-    let a = and_parts _ _ h in
-    let b = and_parts _ _ a.0 in
-    let c = and_parts _ _ b.0 in
-    let range = and_parts _ _ c.0 in
-    let places = and_parts _ _ b.1 in
-    let marks = and_parts _ _ a.1 in
-    record {
-      range = (leb-true 1 rate range.0, leb-true rate 4294967295 range.1);
-      has_no_rows = none_to m.rows c.1;
-      no_field = absent_to m.field places.0;
-      no_gate = absent_to m.gate places.1;
-      no_marks = (not-true m.marks.lift marks.0, not-true m.marks.still marks.1);
-    }
+source_to m rate h = record {
+  range = grind (arith, nat_tests);
+  has_no_rows = none_to m.rows (grind arith);
+  no_field = absent_to m.field (grind arith);
+  no_gate = absent_to m.gate (grind arith);
+  no_marks = grind arith;
+}
 
 source_from : (m : Meaning) (rate : ℕ) → SourceDuty m rate → kind_keeps (Some rate) m ≡ true
-source_from m rate d =
-    and_from _ _
-    (and_from _ _
-    (and_from _ _ (and_from _ _ (le-leb 1 rate d.range.0) (le-leb rate 4294967295 d.range.1)) (ap no_rows d.has_no_rows))
-    (and_from _ _ (ap (λ (o : Option Place). not (is_some o)) d.no_field) (ap (λ (o : Option Place). not (is_some o)) d.no_gate)))
-    (and_from _ _ (not_from_false m.marks.lift d.no_marks.0) (not_from_false m.marks.still d.no_marks.1))
+source_from m rate d = let a = d.has_no_rows in let b = d.no_field in let c = d.no_gate in grind (arith, nat_tests, d.range, d.no_marks)
 
 abbrev OneAtZero : List Row → Type 0
 OneAtZero rs = (r : Row) × (rs ≡ r ∷ []) × (r.value.0 ≡ 0)
 
 one_to : (rs : List Row) → one_row_at_zero rs ≡ true → OneAtZero rs
-one_to [] h = absurd (false≢true h)
-one_to (x ∷ []) h = (x, refl, eqb-true x.value.0 0 h)
-one_to (x ∷ y ∷ ys) h = absurd (false≢true h)
+one_to [] h = grind arith
+one_to (x ∷ []) h = (x, refl, grind (arith, nat_tests))
+one_to (x ∷ y ∷ ys) h = grind arith
 
 one_from : (rs : List Row) → OneAtZero rs → one_row_at_zero rs ≡ true
-one_from rs h = ap one_row_at_zero h.1 ∙ eq-eqb h.0.value.0 0 h.2
+one_from rs h = grind (arith, nat_tests, h.1, h.2)
+
+fits_to : (top : ℕ) (rs : List Row) → values_fit top rs ≡ true → (i : ℕ) (r : Row) → slice_get rs i ≡ Some r → r.value.0 < top
+fits_to top rs h i r e = let a = all_to (λ (x : Row). ltb x.value.0 top) rs h i r e in grind (arith, nat_tests)
 
 field_from : (m : Meaning) (o : Option Place) → m.source ≡ None → m.field ≡ o → Duties m → field_keeps o m.rows ≡ true
 field_from m None s e d = one_from m.rows (d.single s e)
-field_from m (Some p) s e d = fit_from (2 ^ p.width) m.rows (d.fitting p e)
+field_from m (Some p) s e d = all_from (λ (r : Row). ltb r.value.0 (2 ^ p.width)) m.rows (λ i r g. lt-ltb r.value.0 (2 ^ p.width) (d.fitting p e i r g))
 
 kind_from : (m : Meaning) (o : Option ℕ) → m.source ≡ o → Duties m → kind_keeps o m ≡ true
 kind_from m (Some rate) e d = source_from m rate (d.source rate e)
-kind_from m None e d =
-    let n = d.count e in
-    and_from _ _ (and_from _ _ (le-leb 1 (length m.rows) n.0) (le-leb (length m.rows) 16384 n.1)) (field_from m m.field e refl d)
+kind_from m None e d = let f = field_from m m.field e refl d in grind (arith, nat_tests, d.count e)
 
 bit_from : (m : Meaning) (o : Option Place) → m.gate ≡ o → Duties m → bit_keeps o ≡ true
 bit_from m None e d = refl
-bit_from m (Some p) e d = eq-eqb p.width 1 (d.bit p e)
+bit_from m (Some p) e d = grind (arith, nat_tests, d.bit p e)
 
--- where there is a rate field, the values of a source's rows fit it too: it has none
-source_fitting : (m : Meaning) (rate : ℕ) → SourceDuty m rate → (p : Place) → m.field ≡ Some p → ⊥
-source_fitting m rate d p e = never_some p (sym d.no_field ∙ e)
-
-fitting_to : (m : Meaning) (o : Option ℕ) → kind_keeps o m ≡ true → (p : Place) → m.field ≡ Some p → (i : ℕ) (r : Row) → slice_get m.rows i ≡ Some r → r.value.0 < 2 ^ p.width
-fitting_to m (Some rate) h p e i r g = absurd (source_fitting m rate (source_to m rate h) p e)
-fitting_to m None h p e i r g = fit_to (2 ^ p.width) m.rows (ap (λ (o : Option Place). field_keeps o m.rows) (sym e) ∙ (and_parts _ _ h).1) i r g
+-- where there is a rate field, the values of the rows fit it
+fitting_to : (m : Meaning) (o : Option ℕ) → kind_keeps o m ≡ true → (p : Place) → m.field ≡ Some p → values_fit (2 ^ p.width) m.rows ≡ true
+fitting_to m (Some rate) h p e = let d = (source_to m rate h).no_field in grind arith
+fitting_to m None h p e = grind arith
 
 pub duties_kept : (m : Meaning) → keeps_duties m ≡ true → Duties m
 duties_kept m h =
-    let a = and_parts _ _ h in
-    let b = and_parts _ _ a.0 in
-    let c = and_parts _ _ b.0 in
-    let rows = and_parts _ _ a.1 in
-    let band = and_parts _ _ c.1 in
+    let kind : kind_keeps m.source m ≡ true = grind arith in
+    let rows : rows_keep m.number m.rows ≡ true = grind arith in
+    let band : band_keeps m.band ≡ true = grind arith in
     record {
-      source = λ rate e. source_to m rate (ap (λ (o : Option ℕ). kind_keeps o m) (sym e) ∙ c.0);
-      count = λ e.
-          let n = and_parts _ _ (and_parts _ _ (ap (λ (o : Option ℕ). kind_keeps o m) (sym e) ∙ c.0)).0 in
-          (leb-true 1 (length m.rows) n.0, leb-true (length m.rows) 16384 n.1);
-      each = rows_to m.number m.rows rows.0;
-      rising = rise_to m.rows rows.1;
-      fitting = fitting_to m m.source c.0;
-      single = λ e g.
-          let k = (and_parts _ _ (ap (λ (o : Option ℕ). kind_keeps o m) (sym e) ∙ c.0)).1 in
-          one_to m.rows (ap (λ (o : Option Place). field_keeps o m.rows) (sym g) ∙ k);
-      bit = λ p e. eqb-true p.width 1 (ap bit_keeps (sym e) ∙ b.1);
-      band = (leb-true m.band.lo m.band.hi band.0, leb-true m.band.hi (2 ^ 40) band.1);
+      source = λ rate e. source_to m rate (grind arith);
+      count = λ e. grind (arith, nat_tests);
+      each = λ i r e. row_to m.number r (all_to (row_keeps m.number) m.rows rows i r e);
+      rising = rise_to m.rows (grind arith);
+      fitting = λ p e. fits_to (2 ^ p.width) m.rows (fitting_to m m.source kind p e);
+      single = λ e g. one_to m.rows (grind arith);
+      bit = λ p e. grind (arith, nat_tests);
+      band = grind (arith, nat_tests);
     }
 
 pub duties_tested : (m : Meaning) → Decides (keeps_duties m) (Duties m)
 duties_tested m = (
   duties_kept m,
   λ d.
-      and_from _ _
-      (and_from _ _ (and_from _ _ (kind_from m m.source refl d) (and_from _ _ (le-leb m.band.lo m.band.hi d.band.0) (le-leb m.band.hi (2 ^ 40) d.band.1))) (bit_from m m.gate refl d))
-      (and_from _ _ (rows_from m.number m.rows d.each) (rise_from m.rows d.rising)),
+      let kind = kind_from m m.source refl d in
+      let bit = bit_from m m.gate refl d in
+      let rows = all_from (row_keeps m.number) m.rows (λ i r e. row_from m.number r (d.each i r e)) in
+      let rise = rise_from m.rows d.rising in
+      grind (arith, nat_tests, d.band),
 )

@@ -1,6 +1,6 @@
 -- What every part keeps to, whoever made it: as a list of duties, and as a test that computes. Assumes nothing.
 use Rattle.std.specs.Prelude.{◌≡◌, ℕ, ◌^◌, ◌<◌, ◌≤◌, Bool, true, false, not, ◌&&◌, List, [], ◌∷◌, length, is_some, Some, None, Option, ◌==◌, nat_le, nat_lt}
-use Rattle.std.specs.List.{slice_get}
+use Rattle.std.specs.List.{slice_get, list_all}
 use Rattle.bank.specs.declared.field.Place.{Place}
 use Rattle.part.specs.declared.row.Row.{Row}
 use Rattle.part.specs.declared.row.Band.{Band}
@@ -42,8 +42,7 @@ abbrev pub row_keeps : ℕ → Row → Bool
 row_keeps number r = ((nat_le 1 r.n && nat_le r.n 65535) && (nat_le 1 r.d && nat_le r.d 65535)) && nat_lt r.parent number
 
 abbrev pub rows_keep : ℕ → List Row → Bool
-rows_keep number [] = true
-rows_keep number (r ∷ rs) = row_keeps number r && rows_keep number rs
+rows_keep number rs = list_all (row_keeps number) rs
 
 -- the values of the rows are all above v, and rise
 abbrev pub rises_above : ℕ → List Row → Bool
@@ -55,8 +54,7 @@ values_rise [] = true
 values_rise (r ∷ rs) = rises_above r.value.0 rs
 
 abbrev pub values_fit : ℕ → List Row → Bool
-values_fit top [] = true
-values_fit top (r ∷ rs) = nat_lt r.value.0 top && values_fit top rs
+values_fit top rs = list_all (λ r. nat_lt r.value.0 top) rs
 
 abbrev pub no_rows : List Row → Bool
 no_rows [] = true

@@ -1,3 +1,4 @@
 pub mod Meanings
 pub mod Duties
 pub mod Faults
+pub mod Lists

@@ -1,6 +1,7 @@
 -- What a part means, and which row a number or a field value names. Assumes nothing.
-use Rattle.std.specs.Prelude.{ℕ, ◌+◌, cond, List, [], ◌∷◌, Some, None, Option, ◌==◌}
-use Rattle.std.specs.List.{slice_get}
+use Rattle.std.specs.Prelude.{ℕ, List, Option, ◌==◌}
+use Rattle.std.specs.List.{slice_get, position}
+use Rattle.std.specs.Option.{option_map}
 use Rattle.bank.specs.declared.field.Place.{Place}
 use Rattle.part.specs.declared.row.Row.{Row}
 use Rattle.part.specs.declared.row.RowNumber.{RowNumber}
@@ -23,11 +24,10 @@ pub record Meaning : Type 0 where
 abbrev pub row_at : Meaning → ℕ → Option Row
 row_at m i = slice_get m.rows i
 
--- the number of the first row with a value, where the rows are numbered from i on
-abbrev pub named_from : ℕ → List Row → ℕ → Option RowNumber
-named_from i [] v = None
-named_from i (r ∷ rs) v = cond (r.value.0 == v) (Some (record { 0 = i })) (named_from (i + 1) rs v)
+-- the number of the first row with a value, or none
+abbrev pub named : List Row → ℕ → Option RowNumber
+named rs v = option_map (λ i. record { 0 = i }) (position (λ r. r.value.0 == v) rs)
 
 -- the row that a field value names, or none
 abbrev pub row_named : Meaning → ℕ → Option RowNumber
-row_named m v = named_from 0 m.rows v
+row_named m v = named m.rows v

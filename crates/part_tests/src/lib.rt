@@ -1,4 +1,5 @@
-// Examples for parts: how field values read for each kind of piece, rows at their edges, and sheets that keep or break a duty.
+// Examples for parts: how field values read for each kind of piece, rows at their edges, short lists, and sheets that keep or
+// break a duty.
 #![tactic(auto)]
 
 ghost use Rattle.std.specs.Prelude.{◌≡◌};
@@ -6,7 +7,7 @@ ghost use Rattle.std.specs.Prelude.{◌≡◌};
 #[cfg(test)]
 mod pieces {
     use bank::{FieldValue, Place};
-    use part::{Band, Marks, Part, Row, RowNumber, row_again, value_again};
+    use part::{Band, Marks, Part, Row, RowNumber, ShortList, row_again, value_again};
     use piece::{
         DivPiece, DividerStyle, FixPiece, GatePiece, MuxPiece, MuxStyle, Piece, PieceKind,
         PllPiece, SrcPiece,
@@ -150,10 +151,10 @@ mod pieces {
     }
 
     fn mux(style: MuxStyle) -> Piece {
+        let parents = ShortList::from_slice(0, &[8, 0, 8]).unwrap();
         named(PieceKind::Mux(MuxPiece {
             number: 9,
-            parents: [8, 0, 8, 0, 0, 0, 0, 0],
-            count: 3,
+            parents,
             field: place(3),
             style,
             marks: marks(false, false),
@@ -242,10 +243,38 @@ mod pieces {
 }
 
 #[cfg(test)]
+mod short_lists {
+    use part::{Full, ShortList};
+
+    #[test]
+    fn values_up_to_the_room(rt: HostRuntime) {
+        let mut list: ShortList<u8, 2> = ShortList::empty(9);
+        assert_eq!(rt; list.len(), 0);
+        assert_eq!(rt; list.push(7), Ok(()));
+        assert_eq!(rt; list.push(0), Ok(()));
+        // a full list refuses one more, and stays as it was
+        assert_eq!(rt; list.push(5), Err(Full));
+        assert_eq!(rt; list.len(), 2);
+        assert!(rt; list.as_slice() == [7, 0].as_slice());
+    }
+
+    #[test]
+    fn values_of_a_slice(rt: HostRuntime) {
+        let most: Option<ShortList<u8, 2>> = ShortList::from_slice(9, &[7, 0]);
+        assert!(rt; most.is_some_and(|list| list.as_slice() == [7, 0].as_slice()));
+        let less: Option<ShortList<u8, 2>> = ShortList::from_slice(9, &[7]);
+        assert!(rt; less.is_some_and(|list| list.as_slice() == [7].as_slice()));
+        let more: Option<ShortList<u8, 2>> = ShortList::from_slice(9, &[7, 0, 5]);
+        assert!(rt; more.is_none());
+    }
+}
+
+#[cfg(test)]
 mod sheets {
     use bank::{FieldValue, Place};
     use part::{Band, Marks, Part, PartFault, Row, RowNumber};
     use sheet::{Sheet, SheetPart};
+    use std::array;
     use std::process::Abort;
     use std::test::Fail;
 
@@ -363,19 +392,13 @@ mod sheets {
     }
 
     // Rows with the values from 0 on.
-    fn rising(count: usize) -> [Row; 9] {
-        let mut rows = [row(0, 0, 1, 1); 9];
-        for i in 0..9 {
-            if i < count {
-                rows[i].value = FieldValue(i as u32);
-            }
-        }
-        rows
+    fn rising() -> [Row; 9] {
+        array::from_fn(|i| row(i as u32, 0, 1, 1))
     }
 
     #[test]
     fn at_most_eight_rows(rt: HostRuntime) -> Result<(), Fail> {
-        let rows = rising(9);
+        let rows = rising();
         kept(sheet(&rows[0..1]))?;
         kept(sheet(&rows[0..8]))?;
         broken(&rt, sheet(&rows[0..9]))

@@ -2,12 +2,13 @@
 use Rattle.std.specs.Prelude.{◌≡◌, ℕ, ◌+◌, ◌-◌, ◌*◌, ◌/◌, ◌%◌, ◌^◌, ◌<◌, ◌≤◌, Some, Option}
 use Rattle.std.proofs.Common.{sym, ap, ◌∙◌, ⊎_elim, arith, mul_comm, add-mul, pow_mono}
 use Rattle.std.proofs.lemmas.Nat.{pow_pos, pow-add, mul-le, mul-add-lt, mod_below, div_below, le-div, div-mul-add, mod-mul-add, div-add-mod', shr_split, shr_below}
-use Rattle.std.proofs.lemmas.Bool.{cases_lt, cases_eq, cond-true, cond-false, or_from, or_left, or_right, eq-eqb, ne_eqb}
+use Rattle.std.proofs.lemmas.Bool.Decides.{nat_tests}
+use Rattle.std.proofs.lemmas.Bool.{cases_lt}
 use Rattle.part.specs.declared.row.RowNumber.{RowNumber}
-use Rattle.part.specs.Meanings.{named_from}
+use Rattle.part.specs.Meanings.{named}
+use Rattle.piece.specs.declared.shapes.PllPiece.{PllPiece}
 use Rattle.piece.specs.Pieces.{Reading, rows_from, pll_reads}
 use Rattle.piece.specs.RowNumbers.{pll_n, pll_d, pll_count, pll_row}
-use Rattle.part.proofs.Options.{never_some}
 use Rattle.piece.specs.RowLists.{Counts, named_row}
 
 -- a higher digit outweighs the lower one
@@ -62,17 +63,13 @@ module _ (p nw dw : ℕ) (wide : 1 ≤ dw) where
 
   -- a value reads as its two parts, where neither is 0
   value_reads : (v n d : ℕ) → v / 2 ^ dw ≡ n → v % 2 ^ dw ≡ d → 1 ≤ n → 1 ≤ d → pll_reads p dw v ≡ Some (record { parent = p; n = n; d = d })
-  value_reads v n d en ed pn pd =
-      cond-false _ _ _ (or_from _ _ (ne_eqb (v / 2 ^ dw) 0 (λ z. omega arith)) (ne_eqb (v % 2 ^ dw) 0 (λ z. omega arith)))
-      ∙ (ap (λ (x : ℕ). Some (record { parent = p; n = x; d = v % 2 ^ dw })) en ∙ ap (λ (x : ℕ). Some (record { parent = p; n = n; d = x })) ed)
+  value_reads v n d en ed pn pd = grind (arith, nat_tests)
 
   reads_n : (v : ℕ) (q : Reading) → pll_reads p dw v ≡ Some q → 1 ≤ v / 2 ^ dw
-  reads_n v q e =
-      ⊎_elim (λ (z : v / 2 ^ dw ≡ 0). absurd (never_some q (sym (cond-true _ _ _ (or_left _ _ (eq-eqb (v / 2 ^ dw) 0 z))) ∙ e))) (λ other. omega arith) (cases_eq (v / 2 ^ dw) 0)
+  reads_n v q e = grind (arith, nat_tests)
 
   reads_d : (v : ℕ) (q : Reading) → pll_reads p dw v ≡ Some q → 1 ≤ v % 2 ^ dw
-  reads_d v q e =
-      ⊎_elim (λ (z : v % 2 ^ dw ≡ 0). absurd (never_some q (sym (cond-true _ _ _ (or_right _ _ (eq-eqb (v % 2 ^ dw) 0 z))) ∙ e))) (λ other. omega arith) (cases_eq (v % 2 ^ dw) 0)
+  reads_d v q e = grind (arith, nat_tests)
 
   -- the row that a field value with parts of 1 or more names
   module _ (v : ℕ) (n1 : 1 ≤ v / 2 ^ dw) (d1 : 1 ≤ v % 2 ^ dw) (top : v / 2 ^ dw < 2 ^ nw) where
@@ -109,11 +106,15 @@ module _ (p nw dw : ℕ) (wide : 1 ≤ dw) where
 
   -- a value with parts of 1 or more names the row that its parts count to
   pub named_at : (v most-d base : ℕ) → most-d ≡ 2 ^ dw - 1 → base ≡ 2 ^ dw → 1 ≤ v / 2 ^ dw → 1 ≤ v % 2 ^ dw → v / 2 ^ dw < 2 ^ nw
-      → ◌≡◌ {A = Option RowNumber} (Some (record { 0 = (v / 2 ^ dw - 1) * most-d + (v % base - 1) })) (named_from 0 (rows_from (pll_reads p dw) 0 (2 ^ (nw + dw))) v)
+      → ◌≡◌ {A = Option RowNumber} (Some (record { 0 = (v / 2 ^ dw - 1) * most-d + (v % base - 1) })) (named (rows_from (pll_reads p dw) 0 (2 ^ (nw + dw))) v)
   named_at v most-d base is-most is_base n1 d1 top =
       ap (λ (x : ℕ). Some (record { 0 = (v / 2 ^ dw - 1) * x + (v % base - 1) })) is-most
       ∙ (ap (λ (x : ℕ). Some (record { 0 = (v / 2 ^ dw - 1) * (2 ^ dw - 1) + (v % x - 1) })) is_base
-      ∙ sym (named_row (pll_reads p dw) (2 ^ (nw + dw)) (pll_row p dw) (pll_count nw dw) pll_counts v (at v n1 d1 top) (at_lt v n1 d1 top) (at_value v n1 d1 top)))
+      ∙ sym (named_row pll_counts v (at v n1 d1 top) (at_lt v n1 d1 top) (at_value v n1 d1 top)))
+
+-- the rows of a PLL as the program holds it
+pub pll_own_counts : (p : PllPiece) → Counts (pll_reads p.parent p.dw) (2 ^ (p.nw + p.dw)) (pll_row p.parent p.dw) (pll_count p.nw p.dw)
+pll_own_counts p = pll_counts p.parent p.nw p.dw p.dwide
 
 -- a PLL has 1 to 16,384 rows
 pub pll_count_range : (nw dw : ℕ) → 1 ≤ nw → nw ≤ 8 → 1 ≤ dw → dw ≤ 6 → (1 ≤ pll_count nw dw) × (pll_count nw dw ≤ 16384)

@@ -1,13 +1,10 @@
 // The rows of a divider.
-ghost use Rattle.std.specs.Prelude.{◌≡◌, ◌≤◌, length};
-ghost use Rattle.std.specs.List.{slice_get};
-ghost use Rattle.part.specs.Meanings.{named_from};
-ghost use Rattle.piece.specs.Pieces.{rows_of};
+ghost use Rattle.std.specs.Prelude.{◌≡◌, ◌≤◌};
 ghost use Rattle.piece.specs.RowNumbers.{first_value};
 ghost use Rattle.piece.specs.Shown.{div_kind};
 
+use crate::rows::Rows;
 use crate::shapes::DivPiece;
-use crate::style::DividerStyle;
 use bank::FieldValue;
 use part::{Row, RowNumber};
 
@@ -16,21 +13,18 @@ impl DivPiece {
     fn first(&self) -> u16
         ensures { (result ≡ first_value self.now.style) × (result ≤ 1) }
     {
-        match self.style {
-            DividerStyle::Zero => 0,
-            DividerStyle::One => 1,
-        }
+        self.style as u16
     }
+}
 
-    pub(crate) fn row_count(&self) -> u16
-        ensures { result ≡ length (rows_of (div_kind self.now)) }
-    {
+impl Rows for DivPiece {
+    ghost kind = { div_kind };
+
+    fn row_count(&self) -> u16 {
         (1u16 << self.field.width) - self.first()
     }
 
-    pub(crate) fn row(&self, at: RowNumber) -> Option<Row>
-        ensures { result ≡ slice_get (rows_of (div_kind self.now)) at.0 }
-    {
+    fn row(&self, at: RowNumber) -> Option<Row> {
         if at.0 >= self.row_count() {
             return None;
         }
@@ -42,9 +36,7 @@ impl DivPiece {
         })
     }
 
-    pub(crate) fn row_of(&self, value: FieldValue) -> Option<RowNumber>
-        ensures { result ≡ named_from 0 (rows_of (div_kind self.now)) value.0 }
-    {
+    fn row_of(&self, value: FieldValue) -> Option<RowNumber> {
         let first = self.first() as u32;
         if value.0 < first || value.0 - first >= self.row_count() as u32 {
             return None;

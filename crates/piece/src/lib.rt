@@ -5,7 +5,9 @@ mod dividers;
 mod muxes;
 mod piece;
 mod plls;
+mod rows;
 mod shapes;
+mod single;
 mod style;
 
 pub use shapes::{DivPiece, FixPiece, GatePiece, MuxPiece, Piece, PieceKind, PllPiece, SrcPiece};

@@ -1,10 +1,11 @@
 // The rows of a mux.
-ghost use Rattle.std.specs.Prelude.{◌≡◌, ◌<◌, length, if◌then◌else◌, Some, None, nat_lt};
-ghost use Rattle.std.specs.List.{slice_get};
-ghost use Rattle.part.specs.Meanings.{named_from};
-ghost use Rattle.piece.specs.Pieces.{rows_of, mux_value};
+ghost use Rattle.std.specs.Prelude.{◌≡◌, ◌<◌, ◌==◌, length, if◌then◌else◌, Some, None, nat_lt};
+ghost use Rattle.std.specs.List.{find, range_with_len};
+ghost use Rattle.part.specs.Lists.{listed};
+ghost use Rattle.piece.specs.Pieces.{mux_value};
 ghost use Rattle.piece.specs.Shown.{mux_kind};
 
+use crate::rows::Rows;
 use crate::shapes::MuxPiece;
 use crate::style::MuxStyle;
 use bank::FieldValue;
@@ -31,40 +32,35 @@ impl MuxPiece {
         requires { index < 8 }
         ensures { result ≡ mux_value self.now.style index }
     {
-        match self.style.value(index) {
-            Some(value) => value,
-            None => 0,
-        }
+        self.style.value(index).unwrap()
     }
 
-    pub(crate) fn row_count(&self) -> u16
-        ensures { result ≡ length (rows_of (mux_kind self.now)) }
+    // The first index with a field value, or none.
+    fn index_of(&self, value: u32) -> Option<u8>
+        ensures { result ≡ find (λ i. mux_value self.now.style i == value) (range_with_len 0 (length (listed self.now.parents))) }
     {
-        self.count as u16
+        (0..self.parents.len() as u8).find(|i| self.value(*i) == value)
+    }
+}
+
+impl Rows for MuxPiece {
+    ghost kind = { mux_kind };
+
+    fn row_count(&self) -> u16 {
+        self.parents.len() as u16
     }
 
-    pub(crate) fn row(&self, at: RowNumber) -> Option<Row>
-        ensures { result ≡ slice_get (rows_of (mux_kind self.now)) at.0 }
-    {
-        if at.0 >= self.count as u16 {
-            return None;
-        }
+    fn row(&self, at: RowNumber) -> Option<Row> {
+        let parent = *self.parents.as_slice().get(at.0 as usize)?;
         Some(Row {
             value: FieldValue(self.value(at.0 as u8)),
-            parent: self.parents[at.0 as usize],
+            parent,
             n: 1,
             d: 1,
         })
     }
 
-    pub(crate) fn row_of(&self, value: FieldValue) -> Option<RowNumber>
-        ensures { result ≡ named_from 0 (rows_of (mux_kind self.now)) value.0 }
-    {
-        for i in 0..self.count {
-            if self.value(i) == value.0 {
-                return Some(RowNumber(i as u16));
-            }
-        }
-        None
+    fn row_of(&self, value: FieldValue) -> Option<RowNumber> {
+        self.index_of(value.0).map(|i| RowNumber(i as u16))
     }
 }

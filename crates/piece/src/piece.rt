@@ -1,39 +1,15 @@
 // Board pieces are parts.
-ghost use Rattle.std.specs.Prelude.{◌≡◌, eqb, if◌then◌else◌, Some, None, codes};
-ghost use Rattle.std.specs.List.{slice_get};
-ghost use Rattle.piece.specs.Pieces.{source, kind_word, row_read, rows_from, marks_of, meaning_of};
+ghost use Rattle.std.specs.Prelude.{◌≡◌, codes};
+ghost use Rattle.piece.specs.Pieces.{source, kind_word, row_read, marks_of, meaning_of};
 ghost use Rattle.piece.specs.Shown.{kind_of, clock_of};
 ghost use Rattle.words.specs.Spelling.{spelled};
 ghost use Rattle.piece.specs.PieceDuties.{kind_duties};
 
+use crate::rows::Rows;
 use crate::shapes::{Piece, PieceKind, SrcPiece};
 use bank::{FieldValue, Place};
 use part::{Band, Marks, Part, Row, RowNumber};
 use words::Name;
-
-// The one row of a part without a rate field, which the value 0 names.
-fn only_row(at: RowNumber, parent: u8, n: u16, d: u16) -> Option<Row>
-    ensures { result ≡ slice_get (rows_from (λ _. Some (record { parent = parent; n = n; d = d })) 0 1) at.0 }
-{
-    if at.0 != 0 {
-        return None;
-    }
-    Some(Row {
-        value: FieldValue(0),
-        parent,
-        n,
-        d,
-    })
-}
-
-fn only_row_of(value: FieldValue) -> Option<RowNumber>
-    ensures { result ≡ (if eqb 0 value.0 then Some (record { 0 = 0 }) else None) }
-{
-    if value.0 != 0 {
-        return None;
-    }
-    Some(RowNumber(0))
-}
 
 impl Piece {
     // What stands in the places of a list that nothing has filled yet: a source of 1 hertz with the name `_`.
@@ -47,16 +23,16 @@ impl Piece {
     }
 
     // The word for the piece's kind in a board file.
-    pub fn kind_word(&self) -> &'static [u8]
+    pub fn kind_word(&self) -> &'static str
         ensures { result.now ≡ kind_word (kind_of self.now.kind) }
     {
         match &self.kind {
-            PieceKind::Src(_) => b"src",
-            PieceKind::Gate(_) => b"gate",
-            PieceKind::Fix(_) => b"fix",
-            PieceKind::Div(_) => b"div",
-            PieceKind::Mux(_) => b"mux",
-            PieceKind::Pll(_) => b"pll",
+            PieceKind::Src(_) => "src",
+            PieceKind::Gate(_) => "gate",
+            PieceKind::Fix(_) => "fix",
+            PieceKind::Div(_) => "div",
+            PieceKind::Mux(_) => "mux",
+            PieceKind::Pll(_) => "pll",
         }
     }
 
@@ -85,6 +61,7 @@ impl Piece {
     }
 }
 
+// Rows are asked of the kind in a match each time: a function that hands a piece out as a `&dyn Rows` is refused by the check.
 impl Part for Piece {
     ghost meaning = { λ p. meaning_of (clock_of p) };
 
@@ -111,8 +88,8 @@ impl Part for Piece {
     fn row_count(&self) -> u16 {
         match &self.kind {
             PieceKind::Src(_) => 0,
-            PieceKind::Gate(_) => 1,
-            PieceKind::Fix(_) => 1,
+            PieceKind::Gate(p) => p.row_count(),
+            PieceKind::Fix(p) => p.row_count(),
             PieceKind::Div(p) => p.row_count(),
             PieceKind::Mux(p) => p.row_count(),
             PieceKind::Pll(p) => p.row_count(),
@@ -122,8 +99,8 @@ impl Part for Piece {
     fn row(&self, at: RowNumber) -> Option<Row> {
         match &self.kind {
             PieceKind::Src(_) => None,
-            PieceKind::Gate(p) => only_row(at, p.parent, 1, 1),
-            PieceKind::Fix(p) => only_row(at, p.parent, p.n, p.d),
+            PieceKind::Gate(p) => p.row(at),
+            PieceKind::Fix(p) => p.row(at),
             PieceKind::Div(p) => p.row(at),
             PieceKind::Mux(p) => p.row(at),
             PieceKind::Pll(p) => p.row(at),
@@ -133,8 +110,8 @@ impl Part for Piece {
     fn row_of(&self, value: FieldValue) -> Option<RowNumber> {
         match &self.kind {
             PieceKind::Src(_) => None,
-            PieceKind::Gate(_) => only_row_of(value),
-            PieceKind::Fix(_) => only_row_of(value),
+            PieceKind::Gate(p) => p.row_of(value),
+            PieceKind::Fix(p) => p.row_of(value),
             PieceKind::Div(p) => p.row_of(value),
             PieceKind::Mux(p) => p.row_of(value),
             PieceKind::Pll(p) => p.row_of(value),

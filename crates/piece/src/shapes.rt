@@ -1,11 +1,13 @@
 // The six kinds of board piece. What each must keep to is part of its type, so that no piece, however it was filled, has a
-// divisor of 0 or a parent that is not below it.
+// divisor of 0 or a parent that is not below it. Each says so of its own parent: with number and parent in a struct of their own it
+// would be no plainer to fill one in.
 ghost use Rattle.std.specs.Prelude.{◌≡◌, ℕ, ◌-◌, ◌^◌, ◌<◌, ◌≤◌, length, slice_index};
+ghost use Rattle.part.specs.Lists.{listed};
 ghost use Rattle.piece.specs.Pieces.{mux_value};
 
 use crate::style::{DividerStyle, MuxStyle};
 use bank::Place;
-use part::Marks;
+use part::{Marks, ShortList};
 use words::Name;
 
 // A source of a fixed rate in hertz.
@@ -54,20 +56,17 @@ pub struct DivPiece {
     ghost narrow: { field.width ≤ 8 },
 }
 
-// A mux of 1 to 8 parents: the first `count` of the table.
+// A mux of 1 to 8 parents.
 #[derive(Clone, Copy)]
 pub struct MuxPiece {
     pub number: u8,
-    pub parents: [u8; 8],
-    pub count: u8,
+    pub parents: ShortList<u8, 8>,
     pub field: Place,
     pub style: MuxStyle,
     pub marks: Marks,
-    ghost room: { length parents ≡ 8 },
-    ghost some: { 1 ≤ count },
-    ghost few: { count ≤ 8 },
-    ghost below: { (i : ℕ) → i < count → slice_index parents i < number },
-    ghost fits: { mux_value style (count - 1) < 2 ^ field.width },
+    ghost some: { 1 ≤ length (listed parents) },
+    ghost below: { (i : ℕ) → i < length (listed parents) → slice_index (listed parents) i < number },
+    ghost fits: { mux_value style (length (listed parents) - 1) < 2 ^ field.width },
 }
 
 // A PLL: the low `dw` bits of its field hold the divisor, the next `nw` bits the multiplier.

@@ -1,16 +1,11 @@
 -- What is printed, one step at a time: a word of the register list, and a line of the script.
-use Rattle.std.proofs.Common.{◌≡◌, ℕ, ◌+◌, ◌<◌, ◌≤◌, List, [], ◌∷◌, ◌++◌, length, get_or, take, Some, None, Ok, Option, sym, ap, ◌∙◌, arith}
+use Rattle.std.proofs.Common.{◌≡◌, ℕ, ◌+◌, ◌<◌, ◌≤◌, List, [], ◌∷◌, ◌++◌, length, get_or, take, Some, None, Option, sym, ap, ◌∙◌, arith}
 use Rattle.std.specs.List.{flat_map}
 use Rattle.std.proofs.lemmas.List.{append_assoc, flat_map_more, take_more, take_all}
 use Rattle.std.proofs.lemmas.Bool.{cond-true, lt-ltb}
-use Rattle.bank.specs.declared.field.Entry.{Entry}
 use Rattle.bank.specs.Banks.{word_at}
-use Rattle.bank.specs.Entries.{entry_of, entry_after}
 use Rattle.files.specs.declared.list.Make.{Make}
-use Rattle.words.specs.Cutting.{TextLine, others}
-use Rattle.files.specs.Printing.{make_text, word_text, registers_text, write_text}
-use Rattle.files.specs.Writes.{write_or}
-use Rattle.replay.specs.Transcripts.{answer_text, line_run, run_from}
+use Rattle.files.specs.Printing.{make_text, word_text, registers_text}
 
 -- a word of the bank, there since its number is below how many there are
 word_there : (ws : List ℕ) (k : ℕ) → k < length ws → word_at ws k ≡ Some (get_or ws k 0)
@@ -29,18 +24,3 @@ word_more front out more ws k w lt there so_far added =
 pub registers_all : (was front out ws : List ℕ) (make : Make) (k : ℕ) → length ws ≤ k → front ≡ was ++ make_text make → out ≡ front ++ flat_map word_text (take k ws) → out ≡ was ++ registers_text make ws
 registers_all was front out ws make k le first so_far =
     so_far ∙ (ap (λ xs. front ++ flat_map word_text xs) (take_all k ws le) ∙ (ap (λ xs. xs ++ flat_map word_text ws) first ∙ append_assoc was (make_text make) (flat_map word_text ws)))
-
--- a line of the script that is a write
-pub line_played : (bits : ℕ) (make : Make) (out more words after : List ℕ) (l : TextLine) (lines left : List TextLine) (e : Entry)
-    → lines ≡ l ∷ others lines → left ≡ others lines → Ok e ≡ write_or l → after ≡ entry_after bits words e → more ≡ out ++ write_text e ++ answer_text (entry_of bits words e)
-    → more ++ run_from bits make after left ≡ out ++ run_from bits make words lines
-line_played bits make out more words after l lines left e some rest is played printed =
-    let a = write_text e in
-    let b = answer_text (entry_of bits words e) in
-    let c = run_from bits make (entry_after bits words e) (others lines) in
-    let run : run_from bits make words lines ≡ write_text e ++ answer_text (entry_of bits words e) ++ run_from bits make (entry_after bits words e) (others lines) = ap (run_from bits make words) some ∙ ap (λ r. line_run bits words r (λ ws. run_from bits make ws (others lines))) (sym is) in
-    ap (λ xs. xs ++ run_from bits make after left) printed
-    ∙ (ap (λ ws. out ++ a ++ b ++ run_from bits make ws left) played
-    ∙ (ap (λ ls. out ++ a ++ b ++ run_from bits make (entry_after bits words e) ls) rest
-    ∙ (ap (λ xs. xs ++ c) (append_assoc out a b)
-    ∙ (append_assoc out (a ++ b) c ∙ ap (λ xs. out ++ xs) (sym run)))))

@@ -15,6 +15,7 @@ use files::{
 use std::alloc::{AllocError, Global};
 use words::Lines;
 
+// The call of the library that adds bytes, named once for all lines: a String and a Display of lines are no plainer.
 fn append(out: &mut Vec<u8>, line: &ShortText) -> Result<(), AllocError>
     ensures { OnOk result (out.new.items ≡ out.old.items ++ holds line.now) }
 {
@@ -29,9 +30,10 @@ fn append_fault(out: &mut Vec<u8>, fault: FileFault) -> Result<(), AllocError>
 
 // The register list as it stands.
 fn append_registers<B: Bank>(out: &mut Vec<u8>, make: Make, bank: &B) -> Result<(), AllocError>
-    ensures { OnOk result (out.new.items ≡ out.old.items ++ registers_text make (B.Bank.words bank.now)) }
+    ensures { OnOk result (out.new.items ≡ out.old.items ++ registers_text make (B.words bank.now)) }
 {
     append(out, &make_line(make))?;
+    // by number: over `map_while(|k| bank.word(k))` of any bank, the check refuses the invariant that it makes itself
     for k in 0..bank.word_count() {
         if let Some(word) = bank.word(k) {
             append(out, &word_line(word))?;
@@ -42,8 +44,8 @@ fn append_registers<B: Bank>(out: &mut Vec<u8>, make: Make, bank: &B) -> Result<
 
 // Plays one write: its line, and what the bank answers.
 fn play_entry<B: Bank>(out: &mut Vec<u8>, bank: &mut B, entry: Entry) -> Result<(), AllocError>
-    ensures text { OnOk result (out.new.items ≡ out.old.items ++ write_text entry ++ answer_text (entry_of B.Bank.bits (B.Bank.words bank.old) entry)) }
-    ensures after { OnOk result (B.Bank.words bank.new ≡ entry_after B.Bank.bits (B.Bank.words bank.old) entry) }
+    ensures text { OnOk result (out.new.items ≡ out.old.items ++ write_text entry ++ answer_text (entry_of B.WORD_BITS (B.words bank.old) entry)) }
+    ensures after { OnOk result (B.words bank.new ≡ entry_after B.WORD_BITS (B.words bank.old) entry) }
 {
     append(out, &write_line(entry))?;
     let answer = match bank.write(entry.place, entry.value) {
@@ -60,10 +62,9 @@ fn play_script<B: Bank>(
     make: Make,
     script: &[u8],
 ) -> Result<(), AllocError>
-    ensures { OnOk result (out.new.items ≡ out.old.items ++ run_from B.Bank.bits make (B.Bank.words bank.old) (lines_of script.now)) }
+    ensures { OnOk result (out.new.items ≡ out.old.items ++ run_from B.WORD_BITS make (B.words bank.old) (lines_of script.now)) }
 {
-    let mut lines = Lines::of(script);
-    while let Some(line) = lines.next() {
+    for line in Lines::of(script) {
         match read_write(&line) {
             Ok(entry) => play_entry(out, bank, entry)?,
             Err(fault) => return append_fault(out, fault),
@@ -77,6 +78,7 @@ pub fn transcript(heap: Global, registers: &[u8], script: &[u8]) -> Result<Vec<u
     ensures { IfOk result (λ v. v.items ≡ transcript_of registers.now script.now) }
 {
     let mut out = Vec::new(heap);
+    // an arm for each make, since each has a bank of another type
     match read_registers(heap, registers) {
         Ok(RegisterList::WordList(words)) => {
             let mut bank = WordBank::from_words(heap, words.as_slice())?;

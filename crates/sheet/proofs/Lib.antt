@@ -1,2 +1,1 @@
-pub mod TestSteps
 pub mod SheetSteps

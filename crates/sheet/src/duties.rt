@@ -16,24 +16,14 @@ fn row_keeps(number: u8, row: Row) -> bool
 fn rows_keep(number: u8, rows: &[Row]) -> bool
     ensures { result ≡ rows_keep number rows.now }
 {
-    for row in rows {
-        if !row_keeps(number, *row) {
-            return false;
-        }
-    }
-    true
+    rows.iter().all(|row| row_keeps(number, *row))
 }
 
 // Whether field values rise strictly with the row number.
 fn values_rise(rows: &[Row]) -> bool
     ensures { result ≡ values_rise rows.now }
 {
-    for i in 1..rows.len() {
-        if rows[i - 1].value.0 >= rows[i].value.0 {
-            return false;
-        }
-    }
-    true
+    rows.is_sorted_by(|row, next| row.value.0 < next.value.0)
 }
 
 fn value_fits(width: u8, value: FieldValue) -> bool
@@ -46,12 +36,7 @@ fn value_fits(width: u8, value: FieldValue) -> bool
 fn values_fit(width: u8, rows: &[Row]) -> bool
     ensures { result ≡ values_fit (2 ^ width) rows.now }
 {
-    for row in rows {
-        if !value_fits(width, row.value) {
-            return false;
-        }
-    }
-    true
+    rows.iter().all(|row| value_fits(width, row.value))
 }
 
 fn field_keeps(field: Option<Place>, rows: &[Row]) -> bool
@@ -59,17 +44,14 @@ fn field_keeps(field: Option<Place>, rows: &[Row]) -> bool
 {
     match field {
         Some(place) => values_fit(place.width, rows),
-        None => rows.len() == 1 && rows[0].value.0 == 0,
+        None => matches!(rows, [row] if row.value.0 == 0),
     }
 }
 
 fn bit_keeps(gate: Option<Place>) -> bool
     ensures { result ≡ bit_keeps gate }
 {
-    match gate {
-        Some(place) => place.width == 1,
-        None => true,
-    }
+    gate.is_none_or(|place| place.width == 1)
 }
 
 fn band_keeps(band: Band) -> bool

@@ -1,10 +1,11 @@
 // Parts that are taken from a maker's sheet.
-ghost use Rattle.std.specs.Prelude.{◌≡◌, ◌≤◌, true, length, take};
+ghost use Rattle.std.specs.Prelude.{◌≡◌, true};
+ghost use Rattle.part.specs.Lists.{listed};
 ghost use Rattle.part.specs.Duties.{keeps_duties};
 ghost use Rattle.sheet.specs.Sheets.{told};
 
 use bank::Place;
-use part::{Band, Marks, Row};
+use part::{Band, Marks, Row, ShortList};
 
 // What a maker's sheet says of a clock. It may say anything.
 #[derive(Clone, Copy)]
@@ -18,18 +19,16 @@ pub struct Sheet<'a> {
     pub band: Band,
 }
 
-// A part with up to 8 rows, the first `count` of the table.
+// A part with up to 8 rows. It has the fields of a sheet, with rows of its own: a sheet that is generic in its rows is no plainer for
+// who writes one.
 #[derive(Clone, Copy)]
 pub struct SheetPart {
     pub(crate) number: u8,
     pub(crate) source: Option<u32>,
-    pub(crate) rows: [Row; 8],
-    pub(crate) count: u8,
+    pub(crate) rows: ShortList<Row, 8>,
     pub(crate) field: Option<Place>,
     pub(crate) gate: Option<Place>,
     pub(crate) marks: Marks,
     pub(crate) band: Band,
-    ghost room: { length rows ≡ 8 },
-    ghost few: { count ≤ 8 },
-    ghost keeps: { keeps_duties (told number source (take count rows) field gate marks band) ≡ true },
+    ghost keeps: { keeps_duties (told number source (listed rows) field gate marks band) ≡ true },
 }

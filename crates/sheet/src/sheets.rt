@@ -1,5 +1,6 @@
 // Making parts from sheets, and what such a part answers.
-ghost use Rattle.std.specs.Prelude.{◌≡◌, ◌≤◌, length, take, is_ok, if◌then◌else◌, Ok, Err, Decides};
+ghost use Rattle.std.specs.Prelude.{◌≡◌, ◌<◌, ◌≤◌, ◌==◌, IfSome, length, is_ok, if◌then◌else◌, Ok, Err, Decides};
+ghost use Rattle.std.specs.List.{position};
 ghost use Rattle.part.specs.declared.fault.PartFault.TheVariants.{BrokenDuty};
 ghost use Rattle.part.specs.Duties.{Duties};
 ghost use Rattle.sheet.specs.Sheets.{takes, part_of};
@@ -9,25 +10,14 @@ ghost use Rattle.part.proofs.DutyTest.{duties_kept};
 use crate::duties::keeps_duties;
 use crate::sheet::{Sheet, SheetPart};
 use bank::{FieldValue, Place};
-use part::{Band, Part, PartFault, Row, RowNumber};
+use part::{Band, Part, PartFault, Row, RowNumber, ShortList};
 
-// A table with the rows at its front.
-fn table(rows: &[Row]) -> [Row; 8]
-    requires { length rows.now ≤ 8 }
-    ensures front { take (length rows.now) result ≡ rows.now }
-    ensures room { length result ≡ 8 }
+// The place of the first row with a value, or none.
+fn index_of(rows: &[Row], value: FieldValue) -> Option<usize>
+    ensures place { result ≡ position (λ r. r.value.0 == value.0) rows.now }
+    ensures within { IfSome result (λ i. i < length rows.now) }
 {
-    let spare = Row {
-        value: FieldValue(0),
-        parent: 0,
-        n: 1,
-        d: 1,
-    };
-    let mut table = [spare; 8];
-    for (i, row) in rows.iter().enumerate() {
-        table[i] = *row;
-    }
-    table
+    rows.iter().position(|row| row.value == value)
 }
 
 impl SheetPart {
@@ -36,14 +26,22 @@ impl SheetPart {
         ensures answer { answered result ≡ part_of (sheet_says sheet.now) }
         ensures exactly { Decides (is_ok result) (Duties (sheet_says sheet.now) × (length (sheet_says sheet.now).rows ≤ 8)) }
     {
-        if sheet.rows.len() > 8 || !keeps_duties(sheet) {
+        let spare = Row {
+            value: FieldValue(0),
+            parent: 0,
+            n: 1,
+            d: 1,
+        };
+        let Some(rows) = ShortList::from_slice(spare, sheet.rows) else {
+            return Err(PartFault::BrokenDuty);
+        };
+        if !keeps_duties(sheet) {
             return Err(PartFault::BrokenDuty);
         }
         Ok(SheetPart {
             number: sheet.number,
             source: sheet.source,
-            rows: table(sheet.rows),
-            count: sheet.rows.len() as u8,
+            rows,
             field: sheet.field,
             gate: sheet.gate,
             marks: sheet.marks,
@@ -78,23 +76,15 @@ impl Part for SheetPart {
     }
 
     fn row_count(&self) -> u16 {
-        self.count as u16
+        self.rows.len() as u16
     }
 
     fn row(&self, at: RowNumber) -> Option<Row> {
-        if at.0 >= self.row_count() {
-            return None;
-        }
-        Some(self.rows[at.0 as usize])
+        self.rows.as_slice().get(at.0 as usize).copied()
     }
 
     fn row_of(&self, value: FieldValue) -> Option<RowNumber> {
-        for i in 0..self.count {
-            if self.rows[i as usize].value.0 == value.0 {
-                return Some(RowNumber(i as u16));
-            }
-        }
-        None
+        index_of(self.rows.as_slice(), value).map(|at| RowNumber(at as u16))
     }
 
     fn rate_field(&self) -> Option<Place> {

@@ -1,20 +1,10 @@
 -- The number that digits write in a base: one digit on, at the end, and its bound.
-use Rattle.std.proofs.Common.{◌≡◌, ℕ, suc, ◌+◌, ◌*◌, ◌%◌, ◌^◌, ◌<◌, ◌≤◌, ltb, List, [], ◌∷◌, length, get_or, drop, Some, None, sym, ap, ◌∙◌, inl, inr, pow-suc, add-one, arith}
+use Rattle.std.proofs.Common.{◌≡◌, ℕ, suc, ◌+◌, ◌*◌, ◌^◌, ◌<◌, ◌≤◌, cond, ltb, List, [], ◌∷◌, length, Some, None, sym, ap, ◌∙◌, inl, inr, pow-suc, add-one, arith}
 use native.Mathlib.Nat.{pow-le-pow_right}
-use lib.Bits.{bit_and}
-use Rattle.std.proofs.lemmas.Nat.{mul-add-lt, and_mask}
-use Rattle.std.proofs.lemmas.List.{at_drop_more, at_drop_all}
-use Rattle.std.proofs.lemmas.Bool.{cases_Bool, cond-true, cond-false, lt-ltb, le-ltb, ltb-true, eq-eqb}
+use Rattle.std.proofs.lemmas.Nat.{mul-add-lt}
+use Rattle.std.proofs.lemmas.Bool.{cases_Bool, cond-true, cond-false, ltb-true, eq-eqb}
+use Rattle.std.proofs.lemmas.Option.{none-some}
 use Rattle.words.specs.Numbers.{digit_value, value_on, hex_word_of}
-
-pub value_more : (base : ℕ) (w : List ℕ) (i n : ℕ) → i < length w → digit_value (get_or w i 0) < base → value_on base n (drop i w) ≡ value_on base (n * base + digit_value (get_or w i 0)) (drop (i + 1) w)
-value_more base w i n h e = at_drop_more (value_on base n) w i 0 h ∙ cond-true _ _ _ (lt-ltb (digit_value (get_or w i 0)) base e)
-
-pub value_no : (base : ℕ) (w : List ℕ) (i n : ℕ) → i < length w → base ≤ digit_value (get_or w i 0) → value_on base n (drop i w) ≡ None
-value_no base w i n h e = at_drop_more (value_on base n) w i 0 h ∙ cond-false _ _ _ (le-ltb (digit_value (get_or w i 0)) base e)
-
-pub value_end : (base : ℕ) (w : List ℕ) (i n : ℕ) → length w ≤ i → value_on base n (drop i w) ≡ Some n
-value_end base w i n h = at_drop_all (value_on base n) w i h
 
 pub more_below : (base n d i : ℕ) → n < base ^ i → d < base → n * base + d < base ^ (i + 1)
 more_below base n d i h k = let e : base ^ (i + 1) ≡ base ^ i * base = rw (add-one, pow-suc) in omega (arith, mul-add-lt n base d (base ^ i) h k)
@@ -42,10 +32,19 @@ value_below base n (b ∷ bs) k m h e =
     let p : k + 1 + length bs ≡ k + suc (length bs) = omega arith in
     rw (sym p) (value_below base (n * base + digit_value b) bs (k + 1) m (more_below base n (digit_value b) k h f.0) f.1)
 
--- a word of 8 hexadecimal digits loses nothing in 32 bits
-pub hex_whole : (w : List ℕ) (n : ℕ) → length w ≡ 8 → Some n ≡ value_on 16 0 w → Some (bit_and n 4294967295) ≡ hex_word_of w
-hex_whole w n h e =
+-- a word of 8 hexadecimal digits has 32 bits
+pub hex_read : (w : List ℕ) (n : ℕ) → length w ≡ 8 → value_on 16 0 w ≡ Some n → hex_word_of w ≡ Some n
+hex_read w n h e = cond-true _ _ _ (eq-eqb (length w) 8 h) ∙ e
+
+pub hex_small : (w : List ℕ) (n : ℕ) → length w ≡ 8 → value_on 16 0 w ≡ Some n → n < 4294967296
+hex_small w n h e =
     let p : 16 ^ (0 + length w) ≡ 4294967296 = ap (λ k. 16 ^ (0 + k)) h in
-    let q : n < 16 ^ (0 + length w) = value_below 16 0 w 0 n (omega arith) (sym e) in
-    let r : n % 4294967296 ≡ n = omega arith in
-    ap Some (and_mask n 32 ∙ r) ∙ (e ∙ sym (cond-true _ _ _ (eq-eqb (length w) 8 h)))
+    let q : n < 16 ^ (0 + length w) = value_below 16 0 w 0 n (omega arith) e in
+    omega arith
+
+-- what is answered for a byte that is a digit of the base
+pub a_digit : (d base v : ℕ) → Some v ≡ cond (ltb d base) (Some d) None → (v ≡ d) × (d < base)
+a_digit d base v e = elim (cases_Bool (ltb d base)) [
+  | inl t ↦ (let x = e ∙ cond-true _ _ _ t in cc, ltb-true d base t)
+  | inr t ↦ absurd (none-some v (sym (e ∙ cond-false _ (Some d) None t)))
+]

@@ -1,34 +1,53 @@
--- Laws for the readers of lines and words: what an item says of what was left, and that printed spans, lines and digits are read back.
-use Rattle.std.proofs.Common.{◌≡◌, ℕ, zero, suc, ◌+◌, ◌-◌, ◌*◌, ◌/◌, ◌%◌, ◌^◌, ◌<◌, true, false, eqb, List, [], ◌∷◌, ◌++◌, length, Some, None, Option, sym, refl, ap, ◌∙◌, inl, inr, mul_assoc, add-mul, pow-suc, div-add-mod', arith}
-use Rattle.std.specs.Option.{option_map}
+-- Laws for the readers of lines and words: what is left can be counted, and printed spans, lines and digits are read back.
+use Rattle.std.proofs.Common.{◌≡◌, ℕ, zero, suc, ◌+◌, ◌-◌, ◌*◌, ◌/◌, ◌%◌, ◌^◌, ◌<◌, ◌≤◌, true, false, eqb, List, [], ◌∷◌, ◌++◌, length, Some, None, Option, sym, refl, ap, ◌∙◌, inl, inr, mul_assoc, add-mul, pow-suc, div-add-mod', arith}
+use Rattle.std.specs.Option.{ForSome}
 use Rattle.std.specs.List.{AllByRecursion as All}
 use Rattle.std.proofs.lemmas.Nat.{div_below, mod_below}
 use Rattle.std.proofs.ByRecursion.{All-push}
 use Rattle.std.proofs.lemmas.List.{append-nil, append_assoc, length_push}
 use Rattle.std.proofs.lemmas.Bool.{cases_lt, cond-true, cond-false, cond_both, eq-eqb, ne_eqb, lt-ltb, le-ltb, le-leb, lt-leb, and_from, and_right}
-use Rattle.words.specs.Cutting.{spans_of, grown, lines_from, first, others}
+use Rattle.std.specs.Borrow.{Bor}
+use Rattle.words.specs.declared.cutter.Cutter.{Cutter}
+use Rattle.words.specs.declared.cutter.Lines.{Lines}
+use Rattle.words.specs.Cutting.{TextSpan, spans_of, grown, last_line, lines_from, spans_from, spans_left, lines_left}
 use Rattle.words.specs.Numbers.{digit_value, value_on, hex_word_of, hex_byte, hex_digits}
 use Rattle.words.proofs.SpanSteps.{lines_more}
 
--- ---- an item that was given is the first of what was left
+-- ---- what is left can be counted
 
-pub first_some : {B : Type 0} (y : B) (ls : List B) → Some y ≡ first ls → ls ≡ y ∷ others ls
-first_some y [] e = cc
-first_some y (x ∷ xs) e = cc
+grown_few : (p b : ℕ) (ws : List TextSpan) → length (grown p b ws) ≡ length ws
+grown_few p b [] = refl
+grown_few p b (w ∷ ws) = refl
 
-pub first_none : {B : Type 0} (ls : List B) → None ≡ first ls → ls ≡ []
-first_none [] e = refl
-first_none (x ∷ xs) e = cc
+-- there is at most one span more than there are bytes
+spans_few : (mark p : ℕ) (bs : List ℕ) → length (spans_of mark p bs) ≤ length bs + 1
+spans_few mark p [] = omega arith
+spans_few mark p (b ∷ bs) =
+    let e = spans_few mark (p + 1) bs in
+    let g = grown_few p b (spans_of mark (p + 1) bs) in
+    cond_both (eqb b mark) _ _ (λ ws. length ws ≤ length (b ∷ bs) + 1) (λ _. omega arith) (λ _. omega arith)
 
-pub from_some : {A B : Type 0} (f : A → B) (r : Option A) (x : A) (ls : List B) → r ≡ Some x → option_map f r ≡ first ls → ls ≡ f x ∷ others ls
-from_some f r x ls e h = first_some (f x) ls (sym (ap (option_map f) e) ∙ h)
+spans_from_few : (mark p : ℕ) (rest : Option (Bor (List ℕ))) → ForSome rest (λ r. p + length r.now < 2 ^ 63) → length (spans_from mark p rest) < 2 ^ 64
+spans_from_few mark p None h = omega arith
+spans_from_few mark p (Some r) h = let a = h r refl in let e = spans_few mark p r.now in omega arith
 
-pub from_none : {A B : Type 0} (f : A → B) (r : Option A) (ls : List B) → r ≡ None → option_map f r ≡ first ls → ls ≡ []
-from_none f r ls e h = first_none ls (sym (ap (option_map f) e) ∙ h)
+pub spans_left_few : (c : Cutter) → length (spans_left c) < 2 ^ 64
+spans_left_few c = spans_from_few c.mark c.at c.rest c.fits
 
--- the measure of a loop over the items falls
-pub fewer_left : {A B : Type 0} (f : A → B) (r : Option A) (x : A) (ls ks : List B) → r ≡ Some x → option_map f r ≡ first ls → ks ≡ others ls → length ks < length ls
-fewer_left f r x ls ks e h k = let a = ap length (from_some f r x ls e h) in let b = ap length k in omega arith
+last_few : (p : ℕ) (bs : List ℕ) → length (last_line p bs) ≤ 1
+last_few p [] = omega arith
+last_few p (b ∷ bs) = omega arith
+
+lines_few : (ss : List TextSpan) → length (lines_from ss) ≤ length ss
+lines_few [] = omega arith
+lines_few (w ∷ []) = last_few w.place w.bytes
+lines_few (w ∷ v ∷ ws) = let e = lines_few (v ∷ ws) in omega arith
+
+pub lines_left_few : (l : Lines) → length (lines_left l) < 2 ^ 64
+lines_left_few l =
+    let a = l.fits in
+    let e = spans_few 10 l.at l.rest.now in
+    let f = lines_few (spans_of 10 l.at l.rest.now) in omega arith
 
 -- ---- spans and lines are read back
 

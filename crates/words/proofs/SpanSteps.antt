@@ -1,10 +1,14 @@
 -- The spans of a text, one at a time: the first ends at the first mark, and the others are those of what stands behind it.
-use Rattle.std.proofs.Common.{◌≡◌, ℕ, suc, ◌+◌, ◌-◌, ◌<◌, ◌≤◌, Bool, true, false, cond, not, eqb, ltb, List, [], ◌∷◌, length, take, drop, sym, refl, ap, ◌∙◌, subst, one-add, arith}
+use Rattle.std.proofs.Common.{◌≡◌, ℕ, suc, ◌+◌, ◌-◌, ◌<◌, Bool, true, false, cond, not, eqb, ltb, List, [], ◌∷◌, length, take, drop, Some, None, inl, inr, sym, refl, ap, ◌∙◌, subst, one-add, arith}
 use lib.Dec.{leb-suc-suc}
-use Rattle.std.specs.List.{prefix_len}
-use Rattle.std.proofs.lemmas.List.{length-drop, drop-drop, drop-take, drop_all, length-take-le}
-use Rattle.std.proofs.lemmas.Bool.{lt-ltb, le-ltb, cond-true, cond-false}
-use Rattle.words.specs.Cutting.{TextSpan, TextLine, spans_of, grown, lines_from, last_line}
+use Rattle.std.specs.List.{position, prefix_len}
+use Rattle.std.specs.Bool.{⊤}
+use Rattle.std.specs.Iterator.{MakesProgress, item_count}
+use Rattle.std.proofs.lemmas.List.{take_all, take_rest}
+use Rattle.std.proofs.lemmas.List.Sums.{prefix_len-le-length}
+use Rattle.std.proofs.lemmas.Option.{none-some}
+use Rattle.std.proofs.lemmas.Bool.{cases_Bool, lt-ltb, le-ltb, ltb-true, ltb-false, cond-true, cond-false}
+use Rattle.words.specs.Cutting.{TextSpan, spans_of, grown, lines_from, last_line}
 
 -- how many bytes stand before the first mark
 abbrev pub before : ℕ → List ℕ → ℕ
@@ -29,52 +33,55 @@ pub spans_step : (mark p : ℕ) (bs : List ℕ) → spans_of mark p bs ≡ cut_a
 spans_step mark p [] = refl
 spans_step mark p (b ∷ bs) = spans_at mark p b bs (before mark bs) (eqb b mark) (spans_step mark (p + 1) bs)
 
--- the span that begins at `at` in a text and ends at `e`, where p is its place
-module _ (mark at e : ℕ) (text : List ℕ) (ends : e ≡ at + before mark (drop at text)) (p : ℕ) where
-  cut : spans_of mark p (drop at text) ≡ cut_at mark p (drop at text) (e - at)
-  cut = let n : before mark (drop at text) ≡ e - at = omega arith in spans_step mark p (drop at text) ∙ ap (cut_at mark p (drop at text)) n
+-- where the first mark stands
+marked : (mark i : ℕ) (bs : List ℕ) → Some i ≡ position (λ b. eqb b mark) bs → (before mark bs ≡ i) × (i < length bs)
+marked mark i bs e = elim (cases_Bool (ltb (before mark bs) (length bs))) [
+  | inl t ↦ let q : before mark bs ≡ i = let x = e ∙ cond-true _ (Some (before mark bs)) None t in cc in (q, let l = ltb-true (before mark bs) (length bs) t in omega (arith, q))
+  | inr t ↦ absurd (none-some i (sym (e ∙ cond-false _ (Some (before mark bs)) None t)))
+]
 
-  pub span_last : e ≡ length text → spans_of mark p (drop at text) ≡ record { place = p; bytes = take (e - at) (drop at text) } ∷ []
-  span_last h =
-      let q : length (drop at text) ≤ e - at = simp length-drop (omega arith) in
-      cut ∙ ap (λ ps. record { place = p; bytes = take (e - at) (drop at text) } ∷ ps) (cond-false _ _ _ (le-ltb _ _ q))
+unmarked : (mark : ℕ) (bs : List ℕ) → None ≡ position (λ b. eqb b mark) bs → before mark bs ≡ length bs
+unmarked mark bs e = elim (cases_Bool (ltb (before mark bs) (length bs))) [
+  | inl t ↦ absurd (none-some (before mark bs) (e ∙ cond-true _ (Some (before mark bs)) None t))
+  | inr t ↦ let l = ltb-false (before mark bs) (length bs) t in let k = prefix_len-le-length (λ b. not (eqb b mark)) bs in omega (arith, l, k)
+]
 
-  pub span_more : (next : ℕ) → next + at ≡ p + (e + 1) → e < length text → spans_of mark p (drop at text) ≡ record { place = p; bytes = take (e - at) (drop at text) } ∷ spans_of mark next (drop (e + 1) text)
-  span_more next is h =
-      let q : e - at < length (drop at text) = simp length-drop (omega arith) in
-      let a : p + suc (e - at) ≡ next = omega arith in
-      let b : at + suc (e - at) ≡ e + 1 = omega arith in
-      cut ∙ ap (λ ps. record { place = p; bytes = take (e - at) (drop at text) } ∷ ps)
-      (cond-true _ _ _ (lt-ltb _ _ q) ∙ (ap (λ k. spans_of mark k (drop (suc (e - at)) (drop at text))) a
-      ∙ ap (spans_of mark next) (drop-drop (suc (e - at)) at text ∙ ap (λ k. drop k text) b)))
+-- the first span of a text and those behind it, by where the first mark stands
+pub span_more : (mark p i : ℕ) (bs : List ℕ) → Some i ≡ position (λ b. eqb b mark) bs → spans_of mark p bs ≡ record { place = p; bytes = take i bs } ∷ spans_of mark (p + i + 1) (take (length bs - (i + 1)) (drop (i + 1) bs))
+span_more mark p i bs e =
+    let h = marked mark i bs e in
+    let q : p + suc i ≡ p + i + 1 = omega arith in
+    let r : suc i ≡ i + 1 = omega arith in
+    spans_step mark p bs ∙ (ap (cut_at mark p bs) h.0
+    ∙ ap (λ ps. record { place = p; bytes = take i bs } ∷ ps) (cond-true _ _ _ (lt-ltb i (length bs) h.1)
+    ∙ (ap (λ k. spans_of mark k (drop (suc i) bs)) q ∙ ap (spans_of mark (p + i + 1)) (ap (λ k. drop k bs) r ∙ sym (take_rest bs (i + 1))))))
+
+pub span_last : (mark p : ℕ) (bs : List ℕ) → None ≡ position (λ b. eqb b mark) bs → spans_of mark p bs ≡ record { place = p; bytes = bs } ∷ []
+span_last mark p bs e =
+    spans_step mark p bs ∙ (ap (cut_at mark p bs) (unmarked mark bs e)
+    ∙ (ap (λ ps. record { place = p; bytes = take (length bs) bs } ∷ ps) (cond-false _ _ _ (le-ltb (length bs) (length bs) (omega arith)))
+    ∙ ap (λ w. record { place = p; bytes = w } ∷ []) (take_all (length bs) bs (omega arith))))
 
 -- a text has a span, so that a span before its spans is a line that an LF ends
 pub lines_more : (w : TextSpan) (mark p : ℕ) (bs : List ℕ) → lines_from (w ∷ spans_of mark p bs) ≡ record { place = w.place; bytes = w.bytes; ended = true } ∷ lines_from (spans_of mark p bs)
 lines_more w mark p bs = subst (λ ps. lines_from (w ∷ ps) ≡ record { place = w.place; bytes = w.bytes; ended = true } ∷ lines_from ps) (sym (spans_step mark p bs)) refl
 
+pub line_more : (p i : ℕ) (bs : List ℕ) → Some i ≡ position (λ b. eqb b 10) bs → lines_from (spans_of 10 p bs) ≡ record { place = p; bytes = take i bs; ended = true } ∷ lines_from (spans_of 10 (p + i + 1) (take (length bs - (i + 1)) (drop (i + 1) bs)))
+line_more p i bs e = ap lines_from (span_more 10 p i bs e) ∙ lines_more _ 10 (p + i + 1) (take (length bs - (i + 1)) (drop (i + 1) bs))
+
 last_line_lem : (p : ℕ) (w : List ℕ) → 0 < length w → last_line p w ≡ record { place = p; bytes = w; ended = false } ∷ []
 last_line_lem p [] h = absurd (omega arith)
 last_line_lem p (b ∷ bs) h = refl
 
-pub lines_end : (at : ℕ) (text : List ℕ) → length text ≤ at → lines_from (spans_of 10 at (drop at text)) ≡ []
-lines_end at text h = ap (λ bs. lines_from (spans_of 10 at bs)) (drop_all at text h)
+pub line_last : (p : ℕ) (bs : List ℕ) → 0 < length bs → None ≡ position (λ b. eqb b 10) bs → lines_from (spans_of 10 p bs) ≡ record { place = p; bytes = bs; ended = false } ∷ []
+line_last p bs h e = ap lines_from (span_last 10 p bs e) ∙ last_line_lem p bs h
 
-same_line : (p : ℕ) (w v : List ℕ) (s t : Bool) (ls ks : List TextLine) → w ≡ v → s ≡ t → ls ≡ ks → ◌≡◌ {A = List TextLine} (record { place = p; bytes = w; ended = s } ∷ ls) (record { place = p; bytes = v; ended = t } ∷ ks)
-same_line p w v s t ls ks a b c = rw (a, b, c)
+-- ---- the readers of spans and lines go on
 
--- the line that begins at `at` and ends at `e`, and the lines from `next` on
-module _ (at e : ℕ) (text : List ℕ) (ends : e ≡ at + before 10 (drop at text)) where
-  bytes_are : take (e - at) (drop at text) ≡ drop at (take e text)
-  bytes_are = let q : at + (e - at) ≡ e = omega arith in sym (drop-take at (e - at) text) ∙ ap (λ k. drop at (take k text)) q
-
-  pub line_more : (next : ℕ) → next ≡ e + 1 → e < length text → lines_from (spans_of 10 at (drop at text)) ≡ record { place = at; bytes = drop at (take e text); ended = ltb e (length text) } ∷ lines_from (spans_of 10 next (drop next text))
-  line_more next is h =
-      ap lines_from (span_more 10 at e text ends at (e + 1) (omega arith) h) ∙ (lines_more _ 10 (e + 1) (drop (e + 1) text)
-      ∙ same_line at _ _ _ _ _ _ bytes_are (sym (lt-ltb _ _ h)) (ap (λ k. lines_from (spans_of 10 k (drop k text))) (sym is)))
-
-  pub line_last : (next : ℕ) → next ≡ e → e ≡ length text → at < e → lines_from (spans_of 10 at (drop at text)) ≡ record { place = at; bytes = drop at (take e text); ended = ltb e (length text) } ∷ lines_from (spans_of 10 next (drop next text))
-  line_last next is h some =
-      let q : e - at ≤ length (drop at text) = simp length-drop (omega arith) in
-      let z : 0 < length (take (e - at) (drop at text)) = rw length-take-le (omega arith) in
-      ap lines_from (span_last 10 at e text ends at h) ∙ (last_line_lem at _ z
-      ∙ same_line at _ _ _ _ _ _ bytes_are (sym (le-ltb e (length text) (omega arith))) (sym (lines_end next text (omega arith))))
+-- an item is the first of what was left, and less is left behind it
+pub goes_on : {S A B : Type 0} (view : A → B) (rest : S → List B) (s t : S) (x : A) → rest s ≡ view x ∷ rest t → MakesProgress (λ _. ⊤) (item_count rest) s (Some x) t
+goes_on view rest s t x e = record {
+  on = λ _. (tt, tt, let l = ap length e in omega (arith, l));
+  keeps = tt;
+  rests = λ _. tt;
+}

@@ -1,6 +1,13 @@
 -- Numbers as the files write them: digits in a base, whole numbers, and words of eight hexadecimal digits.
 -- Assumes nothing.
 use Rattle.std.specs.Prelude.{ℕ, zero, suc, ◌+◌, ◌-◌, ◌*◌, ◌/◌, ◌%◌, Bool, cond, ◌&&◌, ◌||◌, List, [], ◌∷◌, ◌++◌, length, Some, None, Option, ◌==◌, nat_le, nat_lt, slice_index}
+use Rattle.words.specs.declared.numbers.Base.{Base}
+use Rattle.words.specs.declared.numbers.Base.TheVariants.{Ten, Sixteen}
+
+-- the number that a base is
+abbrev pub radix : Base → ℕ
+radix Ten = 10
+radix Sixteen = 16
 
 -- what a byte counts as a digit: 0-9, then a-f; 16, which no base here has, where it is none
 abbrev pub digit_value : ℕ → ℕ

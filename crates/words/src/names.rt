@@ -1,11 +1,14 @@
 // Names and fixed words in the files.
-ghost use Rattle.std.specs.Prelude.{◌≡◌, codes};
+ghost use Rattle.std.specs.Prelude.{◌≡◌, Some, codes};
 ghost use Rattle.std.specs.Option.{option_map};
 ghost use Rattle.std.specs.Str.{bytes_eq};
-ghost use Rattle.words.specs.Names.{is_name, name_byte};
+ghost use Rattle.std.specs.Fmt.{styled_text};
+ghost use Rattle.words.specs.Names.{is_name, name_byte, all_name_bytes};
 ghost use Rattle.words.specs.Spelling.{spelled, name_in};
 
 use crate::name::Name;
+use arrayvec::ArrayString;
+use std::{fmt, str};
 
 fn is_name_byte(b: u8) -> bool
     ensures { result ≡ name_byte b }
@@ -13,22 +16,20 @@ fn is_name_byte(b: u8) -> bool
     matches!(b, b'a'..=b'z' | b'0'..=b'9' | b'_')
 }
 
+fn has_name_bytes(word: &[u8]) -> bool
+    ensures { result ≡ all_name_bytes word.now }
+{
+    word.iter().all(|b| is_name_byte(*b))
+}
+
 // Whether a word is a name: 1 to 12 of a-z, 0-9 and _.
 pub fn is_name(word: &[u8]) -> bool
     ensures { result ≡ is_name word.now }
 {
-    if word.len() == 0 || word.len() > 12 {
-        return false;
-    }
-    for b in word {
-        if !is_name_byte(*b) {
-            return false;
-        }
-    }
-    true
+    word.len() > 0 && word.len() <= 12 && has_name_bytes(word)
 }
 
-// Whether a word is a fixed one, as `mask`.
+// Whether a word is a fixed one, as `mask`, by the library's equality.
 pub fn is_word(word: &[u8], fixed: &[u8]) -> bool
     ensures { result ≡ bytes_eq word.now fixed.now }
 {
@@ -40,10 +41,9 @@ impl Name {
     pub fn blank() -> Name
         ensures { spelled result ≡ codes "_" }
     {
-        Name {
-            bytes: [b'_'; 12],
-            len: 1,
-        }
+        let mut text = ArrayString::new();
+        text.push_str("_");
+        Name { text }
     }
 
     // The name that a word is, or none.
@@ -53,19 +53,25 @@ impl Name {
         if !is_name(word) {
             return None;
         }
-        let len = word.len();
-        let mut bytes = [0; 12];
-        bytes[0..len].copy_from_slice(word);
-        Some(Name {
-            bytes,
-            len: len as u8,
-        })
+        let word = str::from_utf8(word).unwrap();
+        let text = ArrayString::from(word).unwrap();
+        Some(Name { text })
     }
 
-    // How the name is spelled.
+    // How the name is spelled. A printed line has such a function too; a trait of both, `AsRef` or one of our own, is no plainer.
     pub fn as_bytes(&self) -> &[u8]
         ensures { result.now ≡ spelled self.now }
     {
-        &self.bytes[0..self.len as usize]
+        self.text.as_str().as_bytes()
+    }
+}
+
+impl fmt::Display for Name {
+    ghost output = { λ n. Some (spelled n) };
+
+    ghost styled_output = { λ n style. Some (styled_text style (spelled n)) };
+
+    fn fmt<W: fmt::Write>(&self, f: &mut fmt::Formatter<W>) -> fmt::Result {
+        f.pad(self.text.as_str())
     }
 }

@@ -1,30 +1,45 @@
 // Numbers in the files: whole numbers, and register words of eight hexadecimal digits.
-ghost use Rattle.std.specs.Prelude.{◌≡◌, ◌^◌, ◌≤◌, length};
-ghost use Rattle.words.specs.Numbers.{digit_value, value_on, leading_zero, number_of, hex_word_of};
+ghost use Rattle.std.specs.Prelude.{◌≡◌, ◌^◌, ◌≤◌, length, if◌then◌else◌, Some, None, nat_lt};
+ghost use Rattle.words.specs.Numbers.{digit_value, radix, value_on, leading_zero, number_of, hex_word_of};
 
-// What a byte counts as a digit; 16 where it is none.
-fn digit_value(b: u8) -> u8
-    ensures { result ≡ digit_value b }
-{
-    match b {
-        b'0'..=b'9' => b - b'0',
-        b'a'..=b'f' => b - b'a' + 10,
-        _ => 16,
+// The bases in which the files write numbers.
+#[derive(Clone, Copy)]
+enum Base {
+    Ten = 10,
+    Sixteen = 16,
+}
+
+impl Base {
+    fn radix(self) -> u8
+        ensures value { result ≡ radix self }
+        ensures range { (2 ≤ result) × (result ≤ 16) }
+    {
+        self as u8
+    }
+
+    // What a byte counts as a digit, or none where it is no digit of the base.
+    fn digit(self, b: u8) -> Option<u8>
+        ensures { result ≡ (if nat_lt (digit_value b) (radix self) then Some (digit_value b) else None) }
+    {
+        let digit = match b {
+            b'0'..=b'9' => b - b'0',
+            b'a'..=b'f' => b - b'a' + 10,
+            _ => return None,
+        };
+        (digit < self.radix()).then_some(digit)
     }
 }
 
-// The number that the digits of a word write in a base.
-fn digits_in(word: &[u8], base: u8) -> Option<u64>
-    requires { (2 ≤ base) × (base ^ length word.now ≤ 2 ^ 64) }
-    ensures { result ≡ value_on base 0 word.now }
+// The number that the digits of a word write in a base. By hand: the library's `parse` and `from_str_radix` take a sign, capitals and
+// leading zeros.
+fn digits_in(word: &[u8], base: Base) -> Option<u64>
+    requires { radix base ^ length word.now ≤ 2 ^ 64 }
+    ensures { result ≡ value_on (radix base) 0 word.now }
 {
-    let mut n: u64 = 0;
+    let radix = u64::from(base.radix());
+    let mut n = 0;
     for b in word {
-        let digit = digit_value(*b);
-        if digit >= base {
-            return None;
-        }
-        n = n * u64::from(base) + u64::from(digit);
+        n = n * radix + u64::from(base.digit(*b)?);
     }
     Some(n)
 }
@@ -32,17 +47,17 @@ fn digits_in(word: &[u8], base: u8) -> Option<u64>
 fn leads_with_zero(word: &[u8]) -> bool
     ensures { result ≡ leading_zero word.now }
 {
-    word.len() > 1 && word[0] == b'0'
+    matches!(word, [b'0', _, ..])
 }
 
 // A number: 1 to 18 decimal digits with no sign and no leading zero.
 pub fn number(word: &[u8]) -> Option<u64>
     ensures { result ≡ number_of word.now }
 {
-    if word.len() == 0 || word.len() > 18 || leads_with_zero(word) {
+    if word.is_empty() || word.len() > 18 || leads_with_zero(word) {
         return None;
     }
-    digits_in(word, 10)
+    digits_in(word, Base::Ten)
 }
 
 // A register's word: exactly 8 lower-case hexadecimal digits.
@@ -52,8 +67,5 @@ pub fn hex_word(word: &[u8]) -> Option<u32>
     if word.len() != 8 {
         return None;
     }
-    match digits_in(word, 16) {
-        Some(n) => Some((n & 0xffff_ffff) as u32),
-        None => None,
-    }
+    u32::try_from(digits_in(word, Base::Sixteen)?).ok()
 }

@@ -20,9 +20,9 @@ low_bits dw le =
 pub returns : goal.returns
 returns c = record {
   zero_15 = λ parent marks. record { named = refl; row = refl };
-  one_0 = λ parent width marks low. named_unread _ _ _ _ (divider_counts parent width One) 0 refl;
-  bit_3 = λ a b c width marks le. let big : 2 ^ 3 ≤ 2 ^ width = pow_mono le in named_unread _ _ _ _ (mux_counts Bit (a ∷ b ∷ c ∷ []) width (omega arith)) 3 refl;
+  one_0 = λ parent width marks low. named_unread (divider_counts parent width One) 0 refl;
+  bit_3 = λ a b c width marks le. let big : 2 ^ 3 ≤ 2 ^ width = pow_mono le in named_unread (mux_counts Bit (a ∷ b ∷ c ∷ []) width (omega arith)) 3 refl;
   pll_1601 = λ parent lo hi marks. record { named = refl; row = refl };
-  pll_64 = λ parent nw dw lo hi marks low high. named_unread _ _ _ _ (pll_counts parent nw dw low) 64 (cond-true _ _ _ (or_right _ _ (eq-eqb (64 % 2 ^ dw) 0 (low_bits dw high))));
+  pll_64 = λ parent nw dw lo hi marks low high. named_unread (pll_counts parent nw dw low) 64 (cond-true _ _ _ (or_right _ _ (eq-eqb (64 % 2 ^ dw) 0 (low_bits dw high))));
   mask_9 = refl;
 }

@@ -1,5 +1,5 @@
-use Rattle.std.proofs.Common.{◌≡◌, ◌++◌, length, vec_items}
-use Rattle.words.specs.Cutting.{lines_left}
+use Rattle.std.proofs.Common.{◌≡◌, ◌++◌, vec_items}
+use Rattle.words.specs.Cutting.{lines_of, lines_left}
 use Rattle.replay.specs.Transcripts.{run_from}
 use Rattle.replay.proofs.play_script.Given as goal
 
@@ -7,8 +7,5 @@ use Rattle.replay.proofs.play_script.Given as goal
 abbrev pub invariant-loop-line : goal.invariant-loop-line
 invariant-loop-line g l =
     let b = g.B.Bank in
-    vec_items l.out ++ run_from b.bits l.make (b.words l.bank) (lines_left l.lines)
-    ≡ vec_items l.initial.out ++ run_from b.bits l.make (b.words l.initial.bank) (lines_left l.initial.lines)
-
-abbrev pub decreases-loop-line : goal.decreases-loop-line
-decreases-loop-line g l = length (lines_left l.lines)
+    vec_items l.out ++ run_from b.WORD_BITS l.make (b.words l.bank) (lines_left l.line-iterator)
+    ≡ vec_items l.initial.out ++ run_from b.WORD_BITS l.make (b.words l.initial.bank) (lines_of l.script)

@@ -1,13 +1,7 @@
-use Rattle.std.proofs.Common.{arith}
-use lib.Bits.{and_le_l, and_mask}
-use Rattle.bank.proofs.DeviceWords.{taken_lt}
+use Rattle.std.proofs.Common.{◌/◌, arith}
+use lib.Bits.{and_le_l, and_le_r, or_add_and}
+use Rattle.std.proofs.lemmas.Nat.{or_of_16}
 use Rattle.bank.proofs.mask.take_marked.Goals as goal
 
-pub overflow_sub-kept : goal.overflow_sub-kept
-overflow_sub-kept c = and_le_l _ _
-
-pub overflow_cast-result : goal.overflow_cast-result
-overflow_cast-result c = rw (and_mask c.args.device 16) (omega (arith, taken_lt c.args.old c.args.device (omega arith) (omega arith)))
-
-pub returns : goal.returns
-returns c = rw (and_mask c.args.device 16)
+pub overflow_add-result : goal.overflow_add-result
+overflow_add-result c = omega (arith, or_of_16 c.args.old (c.args.device / 65536) (omega arith) (omega arith), or_add_and, and_le_l, and_le_r)

@@ -6,5 +6,5 @@ use Rattle.bank.proofs.playing.play.Given as goal
 abbrev pub invariant-loop-e : goal.invariant-loop-e
 invariant-loop-e g l =
     let b = g.B.Bank in
-    (play_of b.bits (b.words l.bank) (drop l.e-index l.entries) ≡ play_of b.bits (b.words l.initial.bank) l.entries)
-    × (play_after b.bits (b.words l.bank) (drop l.e-index l.entries) ≡ play_after b.bits (b.words l.initial.bank) l.entries)
+    (play_of b.WORD_BITS (b.words l.bank) (drop l.e-index l.entries) ≡ play_of b.WORD_BITS (b.words l.initial.bank) l.entries)
+    × (play_after b.WORD_BITS (b.words l.bank) (drop l.e-index l.entries) ≡ play_after b.WORD_BITS (b.words l.initial.bank) l.entries)

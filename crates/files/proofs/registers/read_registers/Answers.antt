@@ -1,5 +1,4 @@
-use Rattle.std.proofs.Common.{◌%◌, ◌^◌, map, take, sym, ap, ◌∙◌}
-use native.Mathlib.Nat.{sub-zero}
+use Rattle.std.proofs.Common.{◌%◌, ◌^◌, map, sym, ap, ◌∙◌}
 use Rattle.words.specs.Cutting.{lines_of, others}
 use Rattle.files.specs.Registers.{head_make, words_from}
 use Rattle.files.proofs.RegisterSteps.{mask_read}
@@ -11,8 +10,7 @@ returns-in_ok-lower_halves-in-Mask c =
     let lines = lines_of c.args.text.now in
     let start = c.of-lines.ensures in
     let rest = c.first_make.ensures.after ∙ ap others start in
-    let table = c.read_words.new.words in
     let head = sym (ap head_make start) ∙ sym c.in_ok-make.ensures.answer in
-    let words = sym (ap (words_from make 64) rest) ∙ c.in_ok-count.ensures.1 in
-    let halves = c.in_ok-lower_halves-in-Mask.ensures ∙ ap (λ n. map (λ w. w % 2 ^ 16) (take n table)) (sub-zero c.in_ok-count.count) in
-    mask_read lines make (take c.in_ok-count.count table) _ head c.in-Mask.is words halves
+    let words = sym (ap (words_from make 64) rest) ∙ c.in_ok-words.ensures in
+    let halves = c.in_ok-lower_halves-in-Mask.ensures ∙ ap (map (λ w. w % 2 ^ 16)) c.as_slice-in-Mask.ensures.value in
+    mask_read lines make c.in_ok-words.words.items _ head c.in-Mask.is words halves

@@ -1,9 +1,0 @@
-use Rattle.std.proofs.Common.{rules}
-use Rattle.files.proofs.PrintSteps.{length_byte}
-use Rattle.files.proofs.printing.no_line.Goals as goal
-
-pub push_number-requires : goal.push_number-requires
-push_number-requires c = search (rules, length_byte)
-
-pub push_all-requires-2 : goal.push_all-requires-2
-push_all-requires-2 c = search (rules, length_byte)

@@ -1,9 +1,0 @@
-use Rattle.std.proofs.Common.{◌≡◌, ◌++◌, map, take, vec_items}
-use Rattle.std.specs.List.{flat_map}
-use Rattle.piece.specs.Shown.{clock_of}
-use Rattle.listing.specs.Listings.{clock_text}
-use Rattle.listing.proofs.append_clocks.Given as goal
-
--- the lines of the clocks so far
-abbrev pub invariant-loop-piece : goal.invariant-loop-piece
-invariant-loop-piece l = vec_items l.out ≡ vec_items l.initial.out ++ flat_map clock_text (map clock_of (take l.piece-index l.pieces))

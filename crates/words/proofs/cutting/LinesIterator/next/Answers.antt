@@ -1,0 +1,16 @@
+use Rattle.std.proofs.Common.{rules, sym, ◌∙◌}
+use Rattle.words.specs.Cutting.{lines_left, line_of}
+use Rattle.words.proofs.SpanSteps.{line_more, line_last, goes_on}
+use Rattle.words.proofs.cutting.LinesIterator.next.Goals as goal
+
+pub returns-in_default-clause-steps : goal.returns-in_default-clause-steps
+returns-in_default-clause-steps c = let s = c.args.self.now in line_last s.at s.rest.now (search rules) (sym c.in_default.is ∙ c.find.ensures)
+
+pub returns-in_default-clause-goes : goal.returns-in_default-clause-goes
+returns-in_default-clause-goes c = goes_on line_of lines_left _ _ _ (returns-in_default-clause-steps c)
+
+pub returns-clause-steps : goal.returns-clause-steps
+returns-clause-steps c = let s = c.args.self.now in line_more s.at c.in-Some.lf s.rest.now (sym c.in-Some.is ∙ c.find.ensures)
+
+pub returns-clause-goes : goal.returns-clause-goes
+returns-clause-goes c = goes_on line_of lines_left _ _ _ (returns-clause-steps c)
