@@ -24,7 +24,7 @@ pub fn device_word(at: Place, value: FieldValue) -> Result<u32, BankFault>
 }
 
 // What the device makes of a device word: the marked bits are taken from its lower half. `>>` and `&` cut the halves out; a
-// `try_from` would answer an error that can't come up.
+// `try_from` would answer an error that can't come up, and is no plainer.
 fn take_marked(old: u16, device: u32) -> u16
     ensures { result ≡ taken old device }
 {

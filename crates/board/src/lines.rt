@@ -31,7 +31,7 @@ fn line_kind(word: &[u8], count: usize) -> Option<LineKind>
     }
 }
 
-// The place that the words REG, SHIFT or BIT, and WIDTH name.
+// The place that REG and SHIFT or BIT name, with so many bits.
 fn placed(register: NumberWord, shift: NumberWord, width: u64) -> Place
     requires { (register.value < 256) × (shift.value < 256) × (width < 256) }
     ensures { result ≡ placed register shift width }

@@ -23,7 +23,7 @@ fn find_piece(pieces: &[Piece], name: &[u8]) -> Option<usize>
         .position(|piece| piece.name.as_bytes() == name)
 }
 
-// Each function takes the next word of the line, and says that it leaves those behind it.
+// Each `take_` function takes the next word of the line, and says that it leaves those behind it.
 impl<'a> ClockLine<'a> {
     // A line of an unknown kind, or with the wrong number of words.
     pub(crate) fn bad(&self) -> FileFault

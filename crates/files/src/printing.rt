@@ -108,8 +108,8 @@ pub fn no_line(number: u8) -> ShortText
     joined(&["no ", Buffer::new().format(number), "\n"])
 }
 
-// What is printed of a fault in a file: its number and its place, whichever layer's fault it is. With a `FileFault` it would serve
-// less, and be no plainer.
+// What is printed of a fault in a file: its number and its place. For a caller that has these two, a `FileFault` to hold them is no
+// plainer.
 pub fn no_at_line(number: u8, place: usize) -> ShortText
     ensures { holds result ≡ no_at_text number place }
 {

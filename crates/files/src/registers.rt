@@ -23,7 +23,7 @@ impl Make {
     }
 }
 
-// The bytes of a line that an LF ends.
+// The bytes of a line that an LF ends, or none where none does.
 fn ended_bytes<'a>(line: &Line<'a>) -> Option<&'a [u8]>
     ensures { option_map (λ b. b.now) result ≡ (if (line_of line.now).ended then Some (line_of line.now).bytes else None) }
 {
@@ -63,7 +63,8 @@ fn read_words(make: Make, lines: Lines) -> Result<ArrayVec<u32, 64>, FileFault>
     Ok(words)
 }
 
-// `&` cuts it out; a `try_from` would answer an error that can't come up, since the words of a mask list have 16 bits.
+// The lower half of a word. The words of a mask list have 16 bits, so that a `try_from` would answer an error that can't come up; it
+// is no plainer.
 fn lower_half(word: u32) -> u16
     ensures { result ≡ word % 2 ^ 16 }
 {

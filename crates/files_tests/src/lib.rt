@@ -172,8 +172,8 @@ mod line_words {
 mod printing {
     use bank::{Entry, FieldValue, Place};
     use files::{
-        FileFault, FileFaultKind, Make, PrintFault, ShortText, no_at_line, no_line, number_text, ok_line,
-        print_registers, write_line,
+        FileFault, FileFaultKind, Make, PrintFault, ShortText, no_at_line, no_line, number_text,
+        ok_line, print_registers, write_line,
     };
     use std::process::Abort;
     use words::is_word;
@@ -208,7 +208,11 @@ mod printing {
         prints(&rt, &no_line(41), b"no 41\n");
         prints(&rt, &no_line(0), b"no 0\n");
         prints(&rt, &number_text(10), b"10");
-        prints(&rt, &number_text(18446744073709551615), b"18446744073709551615");
+        prints(
+            &rt,
+            &number_text(18446744073709551615),
+            b"18446744073709551615",
+        );
         prints(&rt, &no_at_line(9, 581), b"no 9 581\n");
         prints(
             &rt,

@@ -60,7 +60,7 @@ impl<'a, P: Part> fmt::Display for ShownPart<'a, P> {
         let count = part.row_count();
         let field = ShownPlace(part.rate_field());
         let gate = ShownPlace(part.gate_bit());
-        // a part answers each mark for itself
+        // asked for apart, as elsewhere: one answer of both is no plainer
         let marks = ShownMarks(Marks {
             lift: part.lift(),
             still: part.still(),

@@ -15,7 +15,7 @@ use files::{
 use std::alloc::{AllocError, Global};
 use words::Lines;
 
-// The call of the library that adds bytes, named once for all lines: a String and a Display of lines are no plainer.
+// The call of the library that adds bytes, named once for this and the two below: a String and a Display of lines are no plainer.
 fn append(out: &mut Vec<u8>, line: &ShortText) -> Result<(), AllocError>
     ensures { OnOk result (out.new.items ≡ out.old.items ++ holds line.now) }
 {
@@ -78,7 +78,7 @@ pub fn transcript(heap: Global, registers: &[u8], script: &[u8]) -> Result<Vec<u
     ensures { IfOk result (λ v. v.items ≡ transcript_of registers.now script.now) }
 {
     let mut out = Vec::new(heap);
-    // an arm for each make, since each has a bank of another type
+    // an arm for each make, with a bank of its type; what they share is `play_script`, and one more function is no plainer
     match read_registers(heap, registers) {
         Ok(RegisterList::WordList(words)) => {
             let mut bank = WordBank::from_words(heap, words.as_slice())?;

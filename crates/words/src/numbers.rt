@@ -31,7 +31,7 @@ impl Base {
 }
 
 // The number that the digits of a word write in a base. By hand: the library's `parse` and `from_str_radix` take a sign, capitals and
-// leading zeros.
+// leading zeros, and with tests for these they are no plainer.
 fn digits_in(word: &[u8], base: Base) -> Option<u64>
     requires { radix base ^ length word.now ≤ 2 ^ 64 }
     ensures { result ≡ value_on (radix base) 0 word.now }
