@@ -5,7 +5,7 @@ use Rattle.std.proofs.lemmas.Nat.{pow_pos, pow-add, mul-add-lt, mod_below, shr_b
 use Rattle.bank.specs.Fields.{bits_of, bits_put}
 
 -- what stands below a field's end is below that end
-low_lt : (w s k v : ℕ) → v < 2 ^ k → v * 2 ^ s + w % 2 ^ s < 2 ^ (s + k)
+pub low_lt : (w s k v : ℕ) → v < 2 ^ k → v * 2 ^ s + w % 2 ^ s < 2 ^ (s + k)
 low_lt w s k v hv = rw (pow-add 2 s k) (mul-add-lt v (2 ^ s) (w % 2 ^ s) (2 ^ k) hv (mod_below w (2 ^ s) (pow_pos s)))
 
 pub put_lt : (b w s k v : ℕ) → w < 2 ^ b → s + k ≤ b → v < 2 ^ k → bits_put w s k v < 2 ^ b

@@ -1,24 +1,26 @@
 // Reading a whole board.
-ghost use Rattle.std.specs.Prelude.{◌≡◌, ◌≤◌, [], map, length, drop, IfOk};
+ghost use Rattle.std.specs.Prelude.{◌≡◌, ◌≤◌, [], if◌then◌else◌, map, length, drop, Some, None, IfOk};
 ghost use Rattle.piece.specs.Shown.{clock_of};
 ghost use Rattle.words.specs.Cutting.{lines_left};
-ghost use Rattle.board.specs.Boards.{all_ended, board_from, board_of, answer_of, list_after};
+ghost use Rattle.board.specs.Boards.{good_lines, board_from, board_of, answer_of, list_after};
 
 use crate::lines::read_line;
 use files::{FileFault, FileFaultKind};
 use piece::Piece;
 use words::Lines;
 
-fn all_ended(mut lines: Lines) -> bool
-    ensures { result ≡ all_ended (lines_left lines.entry) }
+// How many lines there are, where they are 1 to 64 and an LF ends each; none for any others. Nothing behind the 65th line is looked at.
+fn good_lines(lines: Lines) -> Option<usize>
+    ensures { result ≡ (if good_lines (lines_left lines.entry) then Some (length (lines_left lines.entry)) else None) }
 {
-    lines.all(|line| line.ended)
-}
-
-fn count_lines(lines: Lines) -> usize
-    ensures { result ≡ length (lines_left lines.entry) }
-{
-    lines.count()
+    let mut count = 0;
+    for line in lines {
+        if !line.ended || count == 64 {
+            return None;
+        }
+        count += 1;
+    }
+    (count > 0).then_some(count)
 }
 
 // Reads the `count` lines of a board, 1 to 64, into a list: each clock in the place of its number.
@@ -48,9 +50,6 @@ pub fn read_board(text: &[u8], list: &mut [Piece; 64]) -> Result<usize, FileFaul
         return Err(FileFaultKind::BoardLength.at(0));
     }
     let lines = Lines::of(text);
-    let count = count_lines(lines);
-    if !(1..=64).contains(&count) || !all_ended(lines) {
-        return Err(FileFaultKind::BoardLines.at(0));
-    }
+    let count = good_lines(lines).ok_or(FileFaultKind::BoardLines.at(0))?;
     read_lines(lines, count, list)
 }

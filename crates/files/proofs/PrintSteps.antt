@@ -9,7 +9,7 @@ use Rattle.files.specs.Printing.{make_text, word_text, registers_text}
 use Rattle.words.specs.Numbers.{hex_digits}
 use Rattle.words.proofs.LineLaws.{length-hex_digits}
 
-length_make : (make : Make) → length (make_text make) ≡ 5
+pub length_make : (make : Make) → length (make_text make) ≡ 5
 length_make Word = refl
 length_make Mask = refl
 

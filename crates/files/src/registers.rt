@@ -27,7 +27,7 @@ impl Make {
 fn ended_bytes<'a>(line: &Line<'a>) -> Option<&'a [u8]>
     ensures { option_map (λ b. b.now) result ≡ (if (line_of line.now).ended then Some (line_of line.now).bytes else None) }
 {
-    line.ended.then_some(line.bytes)
+    line.ended.then_some(line.bytes())
 }
 
 // The make that a first line names.
@@ -48,11 +48,11 @@ fn line_word(make: Make, line: &Line) -> Option<u32>
     hex_word(ended_bytes(line)?).filter(|word| u64::from(*word) < 1u64 << make.word_bits())
 }
 
-// The words of the lines that are left.
-fn read_words(make: Make, lines: Lines) -> Result<ArrayVec<u32, 64>, FileFault>
-    ensures { MatchResult result (λ v. words_from make 64 (lines_left lines.entry) ≡ Ok v.items) (λ f. words_from make 64 (lines_left lines.entry) ≡ Err f) }
+// The words of the lines that are left, in place of what a list holds. It is lent, so that it need not be moved.
+fn read_words(make: Make, lines: Lines, words: &mut ArrayVec<u32, 64>) -> Result<(), FileFault>
+    ensures { MatchResult result (λ _. words_from make 64 (lines_left lines.entry) ≡ Ok words.new.items) (λ f. words_from make 64 (lines_left lines.entry) ≡ Err f) }
 {
-    let mut words = ArrayVec::new();
+    words.clear();
     for line in lines {
         let bad = FileFaultKind::RegisterLine.at(line.place);
         if words.is_full() {
@@ -60,7 +60,7 @@ fn read_words(make: Make, lines: Lines) -> Result<ArrayVec<u32, 64>, FileFault>
         }
         words.push(line_word(make, &line).ok_or(bad)?);
     }
-    Ok(words)
+    Ok(())
 }
 
 // The lower half of a word. The words of a mask list have 16 bits, so that a `try_from` would answer an error that can't come up; it
@@ -109,7 +109,8 @@ pub fn read_registers(heap: Global, text: &[u8]) -> Result<RegisterList, ReadFau
 {
     let mut lines = Lines::of(text);
     let make = first_make(&mut lines)?;
-    let words = read_words(make, lines)?;
+    let mut words = ArrayVec::new();
+    read_words(make, lines, &mut words)?;
     match make {
         Make::Word => Ok(RegisterList::WordList(Vec::from_slice(heap, words.as_slice())?)),
         Make::Mask => Ok(RegisterList::MaskList(lower_halves(heap, words.as_slice())?)),

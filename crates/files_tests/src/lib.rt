@@ -112,7 +112,7 @@ mod registers {
 #[cfg(test)]
 mod line_words {
     use std::process::Abort;
-    use words::{Lines, hex_word, is_name, is_word, number};
+    use words::{Line, Lines, hex_word, is_name, is_word, number};
 
     #[test]
     fn numbers(rt: HostRuntime) {
@@ -165,6 +165,26 @@ mod line_words {
         // an empty line has one empty word; what stands behind the last LF is a line
         words_at(&rt, b"\n\nx", &[0, 1, 2]);
         words_at(&rt, b"", &[]);
+    }
+
+    // The first line of a text, with another place.
+    fn moved(text: &[u8], place: usize) -> Option<Line<'_>> {
+        let mut line = Lines::of(text).next()?;
+        line.place = place;
+        Some(line)
+    }
+
+    #[test]
+    fn lines_that_are_moved(rt: HostRuntime) {
+        // a line is what stands from its place on; behind the text's end it is empty, wherever it is put
+        assert!(rt; moved(b"ab cd\n", 3).is_some_and(|line| line.bytes() == b"cd".as_slice()));
+        let far = moved(b"ab cd\n", 18446744073709551615);
+        assert!(rt; far.is_some_and(|line| line.bytes().is_empty()));
+        assert_eq!(rt;
+            far.and_then(|line| line.words().next())
+                .map(|word| word.place),
+            Some(18446744073709551615)
+        );
     }
 }
 

@@ -7,11 +7,11 @@ use std::alloc::AllocError;
 #[derive(Clone, Copy, PartialEq, Eq, Debug)]
 pub struct Full;
 
-// A list of at most N values, held in the value itself.
+// A list of at most N values, held in the value itself: the first `len` places. A literal owes that there are so many.
 // By hand, since there is no heap for a Vec, and the pieces that hold a list are Copy, as an ArrayVec is not.
 pub struct ShortList<T, const N: usize> {
-    places: [T; N],
-    len: usize,
+    pub places: [T; N],
+    pub len: usize,
     ghost room: { length places ≡ N },
     ghost few: { len ≤ N },
 }

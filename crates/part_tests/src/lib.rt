@@ -4,10 +4,35 @@
 
 ghost use Rattle.std.specs.Prelude.{◌≡◌};
 
+use bank::Place;
+use part::{Marks, ShortList};
+use piece::{MuxPiece, MuxStyle};
+
+// A mux, as a literal: the same parent stands in it twice.
+pub(crate) fn mux(style: MuxStyle) -> MuxPiece {
+    MuxPiece {
+        parents: ShortList {
+            places: [8, 0, 8, 0, 0, 0, 0, 0],
+            len: 3,
+        },
+        number: 9,
+        field: Place {
+            register: 2,
+            shift: 4,
+            width: 3,
+        },
+        style,
+        marks: Marks {
+            lift: false,
+            still: false,
+        },
+    }
+}
+
 #[cfg(test)]
 mod pieces {
     use bank::{FieldValue, Place};
-    use part::{Band, Marks, Part, Row, RowNumber, ShortList, row_again, value_again};
+    use part::{Band, Marks, Part, Row, RowNumber, row_again, value_again};
     use piece::{
         DivPiece, DividerStyle, FixPiece, GatePiece, MuxPiece, MuxStyle, Piece, PieceKind,
         PllPiece, SrcPiece,
@@ -150,27 +175,16 @@ mod pieces {
         assert_eq!(rt; single.rate_field(), Some(place(1)));
     }
 
-    fn mux(style: MuxStyle) -> Piece {
-        let parents = ShortList::from_slice(0, &[8, 0, 8]).unwrap();
-        named(PieceKind::Mux(MuxPiece {
-            number: 9,
-            parents,
-            field: place(3),
-            style,
-            marks: marks(false, false),
-        }))
-    }
-
     #[test]
     fn muxes(rt: HostRuntime) {
         // the same parent may stand twice
-        let plain = mux(MuxStyle::Plain);
+        let plain = named(PieceKind::Mux(crate::mux(MuxStyle::Plain)));
         reads(&rt, &plain, 0, 0, 8, 1, 1);
         reads(&rt, &plain, 1, 1, 0, 1, 1);
         reads(&rt, &plain, 2, 2, 8, 1, 1);
         reads_nothing(&rt, &plain, 3);
         ends_at(&rt, &plain, 3);
-        let bit = mux(MuxStyle::Bit);
+        let bit = named(PieceKind::Mux(crate::mux(MuxStyle::Bit)));
         reads_nothing(&rt, &bit, 0);
         reads(&rt, &bit, 1, 0, 8, 1, 1);
         reads(&rt, &bit, 2, 1, 0, 1, 1);

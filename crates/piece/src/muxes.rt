@@ -35,7 +35,9 @@ impl MuxPiece {
         self.style.value(index).unwrap()
     }
 
-    // The first index with a field value, or none.
+    // The first index with a field value, or none. Not inlined: its loop is unrolled, and would keep `row_of` of every kind of piece from
+    // being inlined.
+    #[inline(never)]
     fn index_of(&self, value: u32) -> Option<u8>
         ensures { result ≡ find (λ i. mux_value self.now.style i == value) (range_with_len 0 (length (listed self.now.parents))) }
     {

@@ -56,11 +56,11 @@ pub struct DivPiece {
     ghost narrow: { field.width ≤ 8 },
 }
 
-// A mux of 1 to 8 parents.
+// A mux of 1 to 8 parents, which come first so that no space is lost between the fields.
 #[derive(Clone, Copy)]
 pub struct MuxPiece {
-    pub number: u8,
     pub parents: ShortList<u8, 8>,
+    pub number: u8,
     pub field: Place,
     pub style: MuxStyle,
     pub marks: Marks,

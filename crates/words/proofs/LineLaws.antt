@@ -1,10 +1,10 @@
 -- Laws for the readers of lines and words: what is left can be counted, and printed spans, lines and digits are read back.
-use Rattle.std.proofs.Common.{◌≡◌, ℕ, zero, suc, ◌+◌, ◌-◌, ◌*◌, ◌/◌, ◌%◌, ◌^◌, ◌<◌, ◌≤◌, true, false, eqb, List, [], ◌∷◌, ◌++◌, length, Some, None, Option, sym, refl, ap, ◌∙◌, inl, inr, mul_assoc, add-mul, pow-suc, div-add-mod', arith}
+use Rattle.std.proofs.Common.{◌≡◌, ℕ, zero, suc, ◌+◌, ◌-◌, ◌*◌, ◌/◌, ◌%◌, ◌^◌, ◌<◌, ◌≤◌, true, false, eqb, List, [], ◌∷◌, ◌++◌, length, drop, Some, None, Option, sym, refl, ap, ◌∙◌, inl, inr, mul_assoc, add-mul, pow-suc, div-add-mod', arith}
 use Rattle.std.specs.Option.{ForSome}
 use Rattle.std.specs.List.{AllByRecursion as All}
 use Rattle.std.proofs.lemmas.Nat.{div_below, mod_below}
 use Rattle.std.proofs.ByRecursion.{All-push}
-use Rattle.std.proofs.lemmas.List.{append-nil, append_assoc, length_push}
+use Rattle.std.proofs.lemmas.List.{append-nil, append_assoc, length_push, length-drop}
 use Rattle.std.proofs.lemmas.Bool.{cases_lt, cond-true, cond-false, cond_both, eq-eqb, ne_eqb, lt-ltb, le-ltb, le-leb, lt-leb, and_from, and_right}
 use Rattle.std.specs.Borrow.{Bor}
 use Rattle.words.specs.declared.cutter.Cutter.{Cutter}
@@ -27,12 +27,12 @@ spans_few mark p (b ∷ bs) =
     let g = grown_few p b (spans_of mark (p + 1) bs) in
     cond_both (eqb b mark) _ _ (λ ws. length ws ≤ length (b ∷ bs) + 1) (λ _. omega arith) (λ _. omega arith)
 
-spans_from_few : (mark p : ℕ) (rest : Option (Bor (List ℕ))) → ForSome rest (λ r. p + length r.now < 2 ^ 63) → length (spans_from mark p rest) < 2 ^ 64
+spans_from_few : (mark p : ℕ) (rest : Option (Bor (List ℕ))) → ForSome rest (λ r. length r.now < 2 ^ 63) → length (spans_from mark p rest) < 2 ^ 64
 spans_from_few mark p None h = omega arith
 spans_from_few mark p (Some r) h = let a = h r refl in let e = spans_few mark p r.now in omega arith
 
 pub spans_left_few : (c : Cutter) → length (spans_left c) < 2 ^ 64
-spans_left_few c = spans_from_few c.mark c.at c.rest c.fits
+spans_left_few c = spans_from_few c.mark c.at c.rest c.short
 
 last_few : (p : ℕ) (bs : List ℕ) → length (last_line p bs) ≤ 1
 last_few p [] = omega arith
@@ -45,9 +45,10 @@ lines_few (w ∷ v ∷ ws) = let e = lines_few (v ∷ ws) in omega arith
 
 pub lines_left_few : (l : Lines) → length (lines_left l) < 2 ^ 64
 lines_left_few l =
-    let a = l.fits in
-    let e = spans_few 10 l.at l.rest.now in
-    let f = lines_few (spans_of 10 l.at l.rest.now) in omega arith
+    let a = l.short in
+    let d = length-drop l.at l.text.now in
+    let e = spans_few 10 l.at (drop l.at l.text.now) in
+    let f = lines_few (spans_of 10 l.at (drop l.at l.text.now)) in omega arith
 
 -- ---- spans and lines are read back
 

@@ -4,7 +4,7 @@ use lib.Dec.{leb-suc-suc}
 use Rattle.std.specs.List.{position, prefix_len}
 use Rattle.std.specs.Bool.{⊤}
 use Rattle.std.specs.Iterator.{MakesProgress, item_count}
-use Rattle.std.proofs.lemmas.List.{take_all, take_rest}
+use Rattle.std.proofs.lemmas.List.{take_all, take_rest, drop_all, drop-drop, drop-take}
 use Rattle.std.proofs.lemmas.List.Sums.{prefix_len-le-length}
 use Rattle.std.proofs.lemmas.Option.{none-some}
 use Rattle.std.proofs.lemmas.Bool.{cases_Bool, lt-ltb, le-ltb, ltb-true, ltb-false, cond-true, cond-false}
@@ -75,6 +75,18 @@ last_line_lem p (b ∷ bs) h = refl
 
 pub line_last : (p : ℕ) (bs : List ℕ) → 0 < length bs → None ≡ position (λ b. eqb b 10) bs → lines_from (spans_of 10 p bs) ≡ record { place = p; bytes = bs; ended = false } ∷ []
 line_last p bs h e = ap lines_from (span_last 10 p bs e) ∙ last_line_lem p bs h
+
+-- the line that begins at a place of a text, with the text up to its end, and the lines behind it
+pub line_from : (at i : ℕ) (text : List ℕ) → Some i ≡ position (λ b. eqb b 10) (drop at text) → lines_from (spans_of 10 at (drop at text)) ≡ record { place = at; bytes = drop at (take (at + i) text); ended = true } ∷ lines_from (spans_of 10 (at + i + 1) (drop (at + i + 1) text))
+line_from at i text e =
+    let q : at + (i + 1) ≡ at + i + 1 = omega arith in
+    let behind : take (length (drop at text) - (i + 1)) (drop (i + 1) (drop at text)) ≡ drop (at + i + 1) text = take_rest (drop at text) (i + 1) ∙ (drop-drop (i + 1) at text ∙ ap (λ k. drop k text) q) in
+    line_more at i (drop at text) e ∙ (ap (λ w. record { place = at; bytes = w; ended = true } ∷ lines_from (spans_of 10 (at + i + 1) (take (length (drop at text) - (i + 1)) (drop (i + 1) (drop at text))))) (sym (drop-take at i text))
+    ∙ ap (λ bs. record { place = at; bytes = drop at (take (at + i) text); ended = true } ∷ lines_from (spans_of 10 (at + i + 1) bs)) behind)
+
+-- the last line, with no LF behind it, and no line after it
+pub line_end : (at : ℕ) (text : List ℕ) → 0 < length (drop at text) → None ≡ position (λ b. eqb b 10) (drop at text) → lines_from (spans_of 10 at (drop at text)) ≡ record { place = at; bytes = drop at text; ended = false } ∷ lines_from (spans_of 10 (length text) (drop (length text) text))
+line_end at text h e = line_last at (drop at text) h e ∙ ap (λ bs. record { place = at; bytes = drop at text; ended = false } ∷ lines_from (spans_of 10 (length text) bs)) (sym (drop_all (length text) text (omega arith)))
 
 -- ---- the readers of spans and lines go on
 

@@ -1,6 +1,6 @@
 -- How a text is cut: into lines at each LF, and a line into words at each space.
 -- Every span keeps the byte place at which it begins. Assumes nothing.
-use Rattle.std.specs.Prelude.{ℕ, ◌+◌, Bool, true, false, cond, List, [], ◌∷◌, Some, None, Option, ◌==◌}
+use Rattle.std.specs.Prelude.{ℕ, ◌+◌, Bool, true, false, cond, List, [], ◌∷◌, drop, Some, None, Option, ◌==◌}
 use Rattle.std.specs.Borrow.{Bor}
 use Rattle.words.specs.declared.cutter.Span.{Span}
 use Rattle.words.specs.declared.cutter.Line.{Line}
@@ -60,7 +60,7 @@ abbrev pub span_of : Span → TextSpan
 span_of s = record { place = s.place; bytes = s.bytes.now }
 
 abbrev pub line_of : Line → TextLine
-line_of l = record { place = l.place; bytes = l.bytes.now; ended = l.ended }
+line_of l = record { place = l.place; bytes = drop l.place l.text.now; ended = l.ended }
 
 -- what a cutter has still to give
 abbrev pub spans_from : ℕ → ℕ → Option (Bor (List ℕ)) → List TextSpan
@@ -72,4 +72,4 @@ spans_left c = spans_from c.mark c.at c.rest
 
 -- what a reader of lines has still to give
 abbrev pub lines_left : Lines → List TextLine
-lines_left l = lines_from (spans_of 10 l.at l.rest.now)
+lines_left l = lines_from (spans_of 10 l.at (drop l.at l.text.now))

@@ -38,12 +38,19 @@ impl<'a> Iterator for Cutter<'a> {
 }
 
 impl<'a> Line<'a> {
+    // The bytes of the line.
+    pub fn bytes(&self) -> &'a [u8]
+        ensures { result.now ≡ (line_of self.now).bytes }
+    {
+        &self.text[self.place.min(self.text.len())..]
+    }
+
     // The words of the line.
     pub fn words(&self) -> Cutter<'a>
         ensures { spans_left result ≡ words_of (line_of self.now).place (line_of self.now).bytes }
     {
         Cutter {
-            rest: Some(self.bytes),
+            rest: Some(self.bytes()),
             at: self.place,
             mark: b' ',
         }
@@ -55,7 +62,7 @@ impl<'a> Lines<'a> {
     pub fn of(text: &'a [u8]) -> Lines<'a>
         ensures { lines_left result ≡ lines_of text.now }
     {
-        Lines { rest: text, at: 0 }
+        Lines { text, at: 0 }
     }
 }
 
@@ -68,24 +75,25 @@ impl<'a> Iterator for Lines<'a> {
 
     // The next line, or none where the text has no more.
     fn next(&mut self) -> Option<Line<'a>> {
-        let rest = self.rest;
+        let text = self.text;
         let place = self.at;
+        let rest = &text[place..];
         if rest.is_empty() {
             return None;
         }
         let Some(lf) = find(rest, b'\n') else {
-            self.rest = &[];
+            self.at = text.len();
             return Some(Line {
+                text,
                 place,
-                bytes: rest,
                 ended: false,
             });
         };
-        self.rest = &rest[lf + 1..];
-        self.at = place + lf + 1;
+        let end = place + lf;
+        self.at = end + 1;
         Some(Line {
+            text: &text[..end],
             place,
-            bytes: &rest[..lf],
             ended: true,
         })
     }

@@ -7,7 +7,6 @@ ghost use Rattle.words.specs.Names.{is_name, name_byte, all_name_bytes};
 ghost use Rattle.words.specs.Spelling.{spelled, name_in};
 
 use crate::name::Name;
-use arrayvec::ArrayString;
 use std::{fmt, str};
 
 fn is_name_byte(b: u8) -> bool
@@ -41,9 +40,10 @@ impl Name {
     pub fn blank() -> Name
         ensures { spelled result ≡ codes "_" }
     {
-        let mut text = ArrayString::new();
-        text.push_str("_");
-        Name { text }
+        Name {
+            bytes: [b'_'; 12],
+            len: 1,
+        }
     }
 
     // The name that a word is, or none.
@@ -53,16 +53,26 @@ impl Name {
         if !is_name(word) {
             return None;
         }
-        let word = str::from_utf8(word).unwrap();
-        let text = ArrayString::from(word).unwrap();
-        Some(Name { text })
+        let len = word.len();
+        let mut bytes = [0; 12];
+        bytes[0..len].copy_from_slice(word);
+        Some(Name {
+            bytes,
+            len: len as u8,
+        })
     }
 
     // How the name is spelled. A printed line has such a function too; a trait of both, `AsRef` or one of our own, is no plainer.
     pub fn as_bytes(&self) -> &[u8]
         ensures { result.now ≡ spelled self.now }
     {
-        self.text.as_str().as_bytes()
+        &self.bytes[0..self.len as usize]
+    }
+
+    fn as_text(&self) -> &str
+        ensures { result.now ≡ spelled self.now }
+    {
+        str::from_utf8(self.as_bytes()).unwrap()
     }
 }
 
@@ -72,6 +82,6 @@ impl fmt::Display for Name {
     ghost styled_output = { λ n style. Some (styled_text style (spelled n)) };
 
     fn fmt<W: fmt::Write>(&self, f: &mut fmt::Formatter<W>) -> fmt::Result {
-        f.pad(self.text.as_str())
+        f.pad(self.as_text())
     }
 }

@@ -11,6 +11,6 @@ returns-in_ok-lower_halves-in-Mask c =
     let start = c.of-lines.ensures in
     let rest = c.first_make.ensures.after ∙ ap others start in
     let head = sym (ap head_make start) ∙ sym c.in_ok-make.ensures.answer in
-    let words = sym (ap (words_from make 64) rest) ∙ c.in_ok-words.ensures in
+    let words = sym (ap (words_from make 64) rest) ∙ c.in_ok-read_words.ensures in
     let halves = c.in_ok-lower_halves-in-Mask.ensures ∙ ap (map (λ w. w % 2 ^ 16)) c.as_slice-in-Mask.ensures.value in
-    mask_read lines make c.in_ok-words.words.items _ head c.in-Mask.is words halves
+    mask_read lines make c.read_words.new.words.items _ head c.in-Mask.is words halves
